@@ -1,6 +1,6 @@
 -- Places behind more and more bytes.
 use Rattle.std.proofs.Common.{◌≡◌, ℕ, ◌+◌, ◌<◌, ◌≤◌, List, [], ◌∷◌, ◌++◌, length, get_or, drop, refl, ap, ◌∙◌, drop-cons, add-one, length-drop, arith}
-use Rattle.std.proofs.lemmas.List.{nil_from_length}
+use Rattle.pg_base.proofs.ListSteps.{drop-past}
 use Rattle.pg_base.specs.declared.pos.Place.{Place}
 use Rattle.pg_base.specs.Pos.{passed, place_after}
 
@@ -18,4 +18,4 @@ place_after-drop place z i lt = ap (λ (w : List ℕ). place_after place w) (spl
 
 pub place_after-end : (place : Place) (z : List ℕ) (i : ℕ) → length z ≤ i → place_after place (drop i z) ≡ place
 unfolding place_after
-place_after-end place z i le = ap (λ (w : List ℕ). place_after place w) (nil_from_length (drop i z) (omega (arith, length-drop i z)))
+place_after-end place z i le = ap (λ (w : List ℕ). place_after place w) (drop-past z i le)
