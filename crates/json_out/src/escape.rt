@@ -1,6 +1,6 @@
 //! The inside of a JSON string.
 
-ghost use Rattle.std.specs.Prelude.{◌≡◌, ◌++◌, ◌∷◌, [], ◌≤◌, ◌<◌, ◌/◌, ◌%◌, false, codes, take, drop, length, vec_len, OnOk, OnErr, IfOk};
+ghost use Rattle.std.specs.Prelude.{◌≡◌, ◌++◌, ◌∷◌, [], ◌≤◌, ◌<◌, ◌/◌, ◌%◌, false, codes, take, length, vec_len, OnOk, OnErr, IfOk};
 ghost use Rattle.json_out.specs.JsonText.{hex_digit, escaped_byte, escaped, json_text};
 
 use std::alloc::AllocError;
