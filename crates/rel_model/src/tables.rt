@@ -1,6 +1,7 @@
 //! Tables as lists of rows.
 
-ghost use Rattle.std.specs.Prelude.{◌≡◌, ◌+◌, ◌-◌, ◌^◌, ◌<◌, [], ◌∷◌, ◌++◌, IfOk, OnOk, OnErr, replicate, pos};
+ghost use Rattle.std.specs.Prelude.{◌≡◌, ◌+◌, ◌^◌, ◌<◌, IfOk, length, replicate, pos};
+ghost use Rattle.rel_model.specs.Numbered.{numbered};
 
 use pg_base::{Cell, Memory};
 use sqlite_items::Items;
@@ -29,27 +30,23 @@ pub struct Tables {
 }
 
 impl TableRows {
-    /// A table of so many columns, with no row.
-    pub fn empty(alloc: Global, columns: usize) -> Result<TableRows, Memory>
-        ensures { IfOk result (λ t. t ≡ record { rows = []; next_number = 1; counters = replicate columns (pos 0) }) }
+    /// A table of so many columns with these rows, numbered from 1 in their order, and no identity value given yet.
+    pub fn of(alloc: Global, columns: usize, mut rows: Items<Items<Cell>>) -> Result<TableRows, Memory>
+        requires { length rows < 2 ^ 63 }
+        ensures { IfOk result (λ t. t ≡ record { rows = numbered 1 rows; next_number = length rows + 1; counters = replicate columns (pos 0) }) }
     {
+        let next_number = rows.len() as u64 + 1;
         let counters = vec![in alloc; 0i64; columns]?;
+        let mut behind = Vec::with_capacity(alloc, rows.len())?;
+        'rows: while let Some(cells) = rows.pop() {
+            let number = rows.len() as u64 + 1;
+            behind.push(Row { number, cells })?;
+        }
+        behind.reverse();
         Ok(TableRows {
-            rows: Items::new(alloc),
-            next_number: 1,
+            rows: Items::from_vec(behind),
+            next_number,
             counters: Items::from_vec(counters),
         })
-    }
-
-    /// Puts a row of these cells last, with the next number.
-    pub fn add(&mut self, cells: Items<Cell>) -> Result<(), Memory>
-        requires { self.old.next_number < 2 ^ 64 - 1 }
-        ensures ok { OnOk result (self.new ≡ record self.old { rows = self.old.rows ++ record { number = self.old.next_number; cells = cells } ∷ []; next_number = self.old.next_number + 1 }) }
-        ensures err { OnErr result (self.new ≡ self.old) }
-    {
-        let number = self.next_number;
-        self.rows.push(Row { number, cells })?;
-        self.next_number = number + 1;
-        Ok(())
     }
 }
