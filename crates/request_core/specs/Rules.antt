@@ -54,14 +54,13 @@ unfoldable pub token_reader : {A : Type 0} → Blanks → (Token → Option A) �
 token_reader blanks take = λ bytes. taken take (token blanks bytes)
 
 -- by whether what comes between is there
-abbrev pub more_by : {A : Type 0} → Option (Unit {0} × List ℕ) → Option (Reader (List A)) → Reader (List A) → Reader (List A)
-more_by (Some x) (Some goes_on) closes = λ bytes. goes_on x.1
-more_by (Some x) None closes = λ bytes. None
-more_by None _ closes = closes
+abbrev pub more_by : {A : Type 0} → Option (Unit {0} × List ℕ) → Reader (List A) → Reader (List A) → Reader (List A)
+more_by (Some x) goes_on closes = λ bytes. goes_on x.1
+more_by None goes_on closes = closes
 
 abbrev pub closed : {A : Type 0} → Reader (Unit {0}) → Reader (List A)
 closed close = close >>= λ _. pure []
 
 unfoldable pub more : {A : Type 0} → Reader (Unit {0}) → Reader A → Reader (Unit {0}) → ℕ → Reader (List A)
-more between item close zero = λ bytes. more_by (between bytes) None (closed close) bytes
-more between item close (suc n) = λ bytes. more_by (between bytes) (Some (item >>= λ x. more between item close n >>= λ xs. pure (x ∷ xs))) (closed close) bytes
+more between item close zero = closed close
+more between item close (suc n) = λ bytes. more_by (between bytes) (item >>= λ x. more between item close n >>= λ xs. pure (x ∷ xs)) (closed close) bytes

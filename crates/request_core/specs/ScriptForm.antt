@@ -9,6 +9,7 @@ use Rattle.pg_base.specs.declared.kind.Kind.TheVariants as kind
 use Rattle.pg_base.specs.declared.cell.Cell.{Cell}
 use Rattle.pg_base.specs.declared.cell.Cell.TheVariants as cell
 use Rattle.pg_base.specs.declared.table_def.ColumnDef.{ColumnDef}
+use Rattle.request_core.specs.declared.token.Blanks.{Blanks}
 use Rattle.request_core.specs.declared.token.Blanks.TheVariants.{OfScripts}
 use Rattle.request_core.specs.declared.ddl_reader.TableForm.{TableForm}
 use Rattle.request_core.specs.Tokens.{Token, Word, Number, Quoted, Sign, is_lower, Pass, is_blank}
@@ -27,9 +28,16 @@ abbrev pub is_sign : ℕ → Token → Option (Unit {0})
 is_sign b (Sign c) = when (c == b) tt
 is_sign b _ = None
 
--- one lower-case letter other than s, x and z
+-- a lower-case letter other than s, x and z
+abbrev pub is_table_letter : ℕ → Bool
+is_table_letter b = is_lower b && not (b == 115 || b == 120 || b == 122)
+
+abbrev pub one_letter : List ℕ → Option ℕ
+one_letter (b ∷ []) = when (is_table_letter b) b
+one_letter _ = None
+
 abbrev pub letter_of : Token → Option ℕ
-letter_of (Word (b ∷ [])) = when (is_lower b && not (b == 115) && not (b == 120) && not (b == 122)) b
+letter_of (Word w) = one_letter w
 letter_of _ = None
 
 -- the words that name no column
@@ -38,9 +46,12 @@ reserved =
     codes "check" ∷ codes "constraint" ∷ codes "create" ∷ codes "default" ∷ codes "false" ∷ codes "foreign" ∷ codes "not" ∷ codes "null" ∷ codes "on" ∷ codes "only"
     ∷ codes "primary" ∷ codes "references" ∷ codes "table" ∷ codes "true" ∷ codes "unique" ∷ codes "exclude" ∷ codes "like" ∷ codes "collate" ∷ []
 
--- 1 to 20 lower-case letters that are no reserved word
+abbrev pub is_reserved : List ℕ → Bool
+is_reserved w = list_any (λ r. bytes_eq r w) reserved
+
+-- at most 20 lower-case letters that are no reserved word
 abbrev pub is_name : List ℕ → Bool
-is_name w = nat_le (length w) 20 && list_all is_lower w && not (list_any (λ r. bytes_eq w r) reserved)
+is_name w = nat_le (length w) 20 && list_all is_lower w && not (is_reserved w)
 
 abbrev pub name_of : Token → Option (List ℕ)
 name_of (Word w) = when (is_name w) w
@@ -67,11 +78,19 @@ abbrev pub int_cell : Option ℤ → Option Cell
 int_cell None = None
 int_cell (Some n) = Some (cell.Int n)
 
+-- at most ten digits
+abbrev pub number_cell : Bool → List ℕ → Option Cell
+number_cell negative digits = if nat_le (length digits) 10 then int_cell (integer_of negative (number digits)) else None
+
+-- at most 1,000 bytes
+abbrev pub quoted_cell : List ℕ → Option Cell
+quoted_cell t = when (nat_le (length t) 1000) (cell.Text t)
+
 -- a value of a column of the kind; a null where it may be null
 abbrev pub cell_of : Bool → Kind → Token → Option Cell
 cell_of nullable k (Word w) = when (nullable && bytes_eq w (codes "NULL")) cell.Null
-cell_of nullable kind.Int (Number negative digits) = if nat_le (length digits) 10 then int_cell (integer_of negative (number digits)) else None
-cell_of nullable kind.Text (Quoted t) = when (nat_le (length t) 1000) (cell.Text t)
+cell_of nullable kind.Int (Number negative digits) = number_cell negative digits
+cell_of nullable kind.Text (Quoted t) = quoted_cell t
 cell_of nullable _ _ = None
 
 -- ---- the grammar
@@ -137,8 +156,9 @@ abbrev pub tail : {A : Type 0} → List A → List A
 tail [] = []
 tail (x ∷ xs) = xs
 
-abbrev pub end_rule : {A : Type 0} → A → Rule A
-end_rule a = λ bytes rest b. Pass (is_blank OfScripts) bytes × (rest ≡ []) × (a ≡ b)
+-- blanks, and the end
+abbrev pub end_rule : Blanks → Rule (Unit {0})
+end_rule blanks = λ bytes rest _. Pass (is_blank blanks) bytes × (rest ≡ [])
 
 -- CREATE TABLE l (..); INSERT INTO l VALUES ..;
 unfoldable pub table_rule : Rule TableForm
@@ -153,15 +173,20 @@ table_rule =
     bind_rule (word_rule (letter ∷ [])) (λ _.
     bind_rule (word_rule (codes "VALUES")) (λ _.
     bind_rule (rows_rule (tail columns)) (λ rows.
-    end_rule (record { letter = letter; columns = columns; rows = rows })))))))))))
+    bind_rule (end_rule OfScripts) (λ _.
+    pure_rule (record { letter = letter; columns = columns; rows = rows }))))))))))))
 
--- the cell of the primary key
-abbrev pub first_cell : List Cell → Cell
-first_cell [] = cell.Null
-first_cell (c ∷ cells) = c
+-- the integer of the primary key, which is a row's first cell
+abbrev pub key_cell : List Cell → ℤ
+key_cell (cell.Int n ∷ cells) = n
+key_cell _ = pos 0
 
--- the script has the form, and gives this table: its columns' names differ, and its rows' first cells
+-- no two columns have one name, and no two rows one key
+pub record IsUnambiguous (form : TableForm) : Type 0 where
+  pub names : AreDistinct (map (λ c. c.name) form.columns)
+  pub keys : AreDistinct (map key_cell form.rows)
+
+-- the script has the form, and gives this table
 pub record IsScript (bytes : List ℕ) (form : TableForm) : Type 0 where
   pub spelled : table_rule bytes [] form
-  pub names : AreDistinct (map (λ c. c.name) form.columns)
-  pub keys : AreDistinct (map first_cell form.rows)
+  pub unambiguous : IsUnambiguous form

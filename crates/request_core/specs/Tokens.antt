@@ -55,6 +55,13 @@ Spells bytes rest (Number negative digits) = (bytes ≡ minus negative ++ (digit
 Spells bytes rest (Quoted text) = (bytes ≡ 39 ∷ (text ++ (39 ∷ rest))) × Pass is_plain text
 Spells bytes rest (Sign b) = (bytes ≡ b ∷ rest) × (is_sign b ≡ true)
 
+-- a token is made of the bytes of its kind
+abbrev pub IsProper : Token → Type 0
+IsProper (Word w) = Pass is_letter w
+IsProper (Number negative digits) = Pass is_digit digits
+IsProper (Quoted text) = Pass is_plain text
+IsProper (Sign b) = ⊤
+
 -- a token behind some blanks
 pub record IsToken (blanks : Blanks) (bytes rest : List ℕ) (t : Token) : Type 0 where
   pub gap : List ℕ

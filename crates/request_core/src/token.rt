@@ -61,7 +61,10 @@ fn blank_count(blanks: Blanks, bytes: &[u8]) -> usize
     ensures value { result ≡ length (take_while (spec.is_blank blanks) bytes.now) }
     ensures within { result ≤ length bytes.now }
 {
-    bytes.iter().take_while(|byte| is_blank(blanks, **byte)).count()
+    bytes
+        .iter()
+        .take_while(|byte| is_blank(blanks, **byte))
+        .count()
 }
 
 fn letter_count(bytes: &[u8]) -> usize
