@@ -17,8 +17,8 @@ returns-in_err-loaded-clause-err g c =
 pub returns-clause-ok : goal.returns-clause-ok
 returns-clause-ok g c =
     held_read _ _ _ (Loads c.in_ok-loaded.loaded.catalog c.in_ok-loaded.loaded.tables)
-        (λ short. record {
-          given = (short, subst (λ (l : List ℕ). Gives l c.in_ok-loaded.loaded.catalog c.in_ok-loaded.loaded.tables) c.bytes-2.ensures c.in_ok-loaded.ensures.ok);
-          one = λ other more file. c.in_ok-loaded.ensures.one other more (subst (λ (l : List ℕ). Gives l other more) (sym c.bytes-2.ensures) file.1);
-        })
-        c.in_ok-bytes.ensures.ok
+    (λ short. record {
+      given = (short, subst (λ (l : List ℕ). Gives l c.in_ok-loaded.loaded.catalog c.in_ok-loaded.loaded.tables) c.bytes-2.ensures c.in_ok-loaded.ensures.ok);
+      one = λ other more file. c.in_ok-loaded.ensures.one other more (subst (λ (l : List ℕ). Gives l other more) (sym c.bytes-2.ensures) file.1);
+    })
+    c.in_ok-bytes.ensures.ok
