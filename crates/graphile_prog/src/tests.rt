@@ -27,7 +27,7 @@ fn blob(alloc: Global, text: &str) -> Result<Blob, AllocError> {
     Ok(Blob::of(Vec::from_slice(alloc, text.as_bytes())?))
 }
 
-fn run(
+fn run_query(
     alloc: Global,
     words: &[&str],
     script: &str,
@@ -149,7 +149,7 @@ fn each_status_has_its_row(rt: HostRuntime) -> Result<(), Fail> {
         ),
     ];
     for (words, script, document, faults, status, exit, line) in &rows {
-        let ended = run(rt.alloc(), words, script, document, faults, &[])?;
+        let ended = run_query(rt.alloc(), words, script, document, faults, &[])?;
         assert_eq!(rt; ended.status, *status);
         assert_eq!(rt; ended.status.exit_status(), *exit);
         assert_eq!(rt; ended.written.as_slice(), line.as_bytes());
@@ -175,7 +175,7 @@ fn a_sink_that_fails_is_a_write_fault(rt: HostRuntime) -> Result<(), Fail> {
 
 #[test]
 fn a_line_that_is_not_taken_leaves_the_status(rt: HostRuntime) -> Result<(), Fail> {
-    let ended = run(rt.alloc(), &[], SCRIPT, DOCUMENT, &[], &[1])?;
+    let ended = run_query(rt.alloc(), &[], SCRIPT, DOCUMENT, &[], &[1])?;
     assert_eq!(rt; ended.status, Status::BadWords);
     assert_eq!(rt; ended.written.len(), 0);
     Ok(())

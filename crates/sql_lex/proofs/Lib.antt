@@ -1,0 +1,12 @@
+pub mod Rests
+pub mod QuotedSteps
+pub mod SeparatorSteps
+pub mod TokenSteps
+pub mod Utf8
+pub mod Shapes
+pub mod Pieces
+pub mod Gaps
+pub mod Answering
+pub mod Known
+pub mod Values
+pub mod Lists
