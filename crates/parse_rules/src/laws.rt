@@ -40,13 +40,15 @@ pub trait Then: Part {
 /// An exact parser, with the end behind it, reads the sentences and stops where a text stops being
 /// one: behind it no sentence goes on, or a bracket past the limit comes.
 pub fn whole_reads_sentences<P: Part>()
-    ensures { (limit : ℕ) → IsExact P.brackets limit 0 P.follow P.rule P.parser → P.follow [] → ReadsSentences P.brackets limit IsLast P.rule (whole P.parser) }
+    ensures { (limit : ℕ) → IsExact P.brackets limit 0 P.follow P.rule P.parser → P.follow []
+        → ReadsSentences P.brackets limit IsLast P.rule (whole P.parser) }
 {}
 
 /// So does an exact parser that is done before what may stand behind a sentence alone, where that
 /// part of a text isn't read.
 pub fn start_reads_sentences<P: Part>()
-    ensures { (limit : ℕ) → IsExact P.brackets limit 0 P.follow P.rule P.parser → ((k : List P.Token) → P.behind k → P.follow k) → P.behind []
+    ensures { (limit : ℕ) → IsExact P.brackets limit 0 P.follow P.rule P.parser
+        → ((k : List P.Token) → P.behind k → P.follow k) → P.behind []
         → ((ts rest : List P.Token) (a : P.Tree) → P.parser ts ≡ Ok (a, rest) → P.behind rest)
         → ReadsSentences P.brackets limit P.behind P.rule P.parser }
 {}
@@ -54,19 +56,23 @@ pub fn start_reads_sentences<P: Part>()
 /// A text has one tree at most, where a parser reads the sentences.
 pub fn text_has_one_tree<P: Part>()
     ensures { (limit : ℕ) → ReadsSentences P.brackets limit P.behind P.rule P.parser
-        → (ts : List P.Token) (a b : P.Tree) → IsSentence P.brackets limit P.behind P.rule ts a → IsSentence P.brackets limit P.behind P.rule ts b → a ≡ b }
+        → (ts : List P.Token) (a b : P.Tree) → IsSentence P.brackets limit P.behind P.rule ts a
+        → IsSentence P.brackets limit P.behind P.rule ts b → a ≡ b }
 {}
 
 /// A text stops being a sentence at one place at most.
 pub fn text_stops_at_one_place<P: Part>()
-    ensures { (limit : ℕ) (ts f g r s : List P.Token) → IsStop P.brackets limit P.behind P.rule ts f r → IsStop P.brackets limit P.behind P.rule ts g s → (f ≡ g) × (r ≡ s) }
+    ensures { (limit : ℕ) (ts f g r s : List P.Token) → IsStop P.brackets limit P.behind P.rule ts f r
+        → IsStop P.brackets limit P.behind P.rule ts g s → (f ≡ g) × (r ≡ s) }
 {}
 
 /// A sentence stops nowhere, where a parser is exact and no bracket opens behind a sentence.
 pub fn sentence_stops_nowhere<P: Part>()
-    ensures { (limit : ℕ) → IsExact P.brackets limit 0 P.follow P.rule P.parser → ((k : List P.Token) → P.behind k → P.follow k) → P.behind []
+    ensures { (limit : ℕ) → IsExact P.brackets limit 0 P.follow P.rule P.parser
+        → ((k : List P.Token) → P.behind k → P.follow k) → P.behind []
         → ((k : List P.Token) → P.behind k → sees P.brackets.opens k ≡ false)
-        → (ts f r : List P.Token) (a : P.Tree) → IsSentence P.brackets limit P.behind P.rule ts a → IsStop P.brackets limit P.behind P.rule ts f r → ⊥ }
+        → (ts f r : List P.Token) (a : P.Tree) → IsSentence P.brackets limit P.behind P.rule ts a
+        → IsStop P.brackets limit P.behind P.rule ts f r → ⊥ }
 {}
 
 /// One part after another is read exactly where each is. `follow` may stand behind the first part, `behind` behind both.

@@ -34,6 +34,7 @@ fn samples_are_read_and_stop_at_the_first_sign_that_does_not_fit(
     laws::text_has_one_tree::<Nested>();
     laws::text_stops_at_one_place::<Nested>();
     laws::sentence_stops_nowhere::<Nested>();
+    laws::bind_is_exact::<Nested>();
     laws::until_is_exact::<Nested>();
     laws::while_is_exact::<Nested>();
     laws::optional_is_exact::<Nested>();

@@ -7,7 +7,7 @@ ghost use Rattle.parse_rules.specs.declared.samples.nested.Item.{Item};
 
 use crate::cursor::Cursor;
 use crate::error::ReadError;
-use crate::laws::Part;
+use crate::laws::{Part, Then};
 use crate::samples::sign::{Sign, Wanted, letter_of};
 use sqlite_items::Items;
 use std::alloc::Global;
@@ -109,4 +109,16 @@ impl Part for Nested {
     ghost rule = { spec.IsItem };
 
     ghost parser = { spec.item spec.limit };
+}
+
+/// Nothing more behind an item, which is what it spells.
+impl Then for Nested {
+    ghost use Rattle.parse_rules.specs.Parser.{pure};
+    ghost use Rattle.parse_rules.specs.Rules.{pure_rule};
+
+    type Next = Item;
+
+    ghost next_rule = { λ item. pure_rule item };
+
+    ghost next_parser = { λ item. pure item };
 }
