@@ -1,14 +1,13 @@
 -- Files and counts that are found by their name.
-use Rattle.std.proofs.Common.{◌≡◌, ◌≢◌, ℕ, zero, suc, ◌+◌, ◌-◌, ◌^◌, ◌<◌, ◌≤◌, min, Bool, true, false, cond, List, [], ◌∷◌, ◌++◌, length, get_or, drop, take, Some, refl, ap, sym, subst, ◌∙◌, add-one, append-nil, arith, rules}
+use Rattle.std.proofs.Common.{◌≡◌, ℕ, ◌+◌, ◌-◌, ◌^◌, ◌<◌, min, true, false, cond, List, [], ◌∷◌, ◌++◌, length, get_or, drop, take, refl, ap, sym, subst, ◌∙◌, add-one, append-nil, arith}
 use Rattle.std.proofs.lemmas.List.{take-append-drop}
 use Rattle.std.proofs.lemmas.Slice.Eq.{bytes_eq-Decides}
-use Rattle.std.proofs.lemmas.Grind.{common_steps}
 use Rattle.std.specs.Prelude.{slice_set}
 use Rattle.std.specs.Str.{bytes_eq}
 use Rattle.pg_base.specs.Lists.{Each}
-use Rattle.pg_base.proofs.ListSteps.{drop-item, drop-past, set_seam}
+use Rattle.pg_base.proofs.ListSteps.{drop-item, set_seam}
 use Rattle.pg_io.specs.declared.mem_files.MemFile.{MemFile}
-use Rattle.pg_io.specs.Files.{Told, Absent, Holds}
+use Rattle.pg_io.specs.Files.{Absent, Holds}
 use Rattle.pg_io.specs.MemFiles.{file_of}
 use Rattle.pg_io.specs.declared.counts.NameCount.{NameCount}
 use Rattle.pg_io.specs.Streams.{Rose}

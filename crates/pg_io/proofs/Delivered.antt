@@ -1,5 +1,5 @@
 -- Bytes that were given to a sink, piece after piece.
-use Rattle.std.proofs.Common.{◌≡◌, ℕ, ◌+◌, ◌-◌, ◌≤◌, List, ◌++◌, length, take, drop, Option, Some, None, Ok, refl, sym, ap, subst, ◌∙◌, append_assoc, length-drop, take_all, arith}
+use Rattle.std.proofs.Common.{◌≡◌, ℕ, ◌+◌, ◌-◌, List, ◌++◌, length, take, drop, Option, Some, None, Ok, sym, ap, subst, ◌∙◌, append_assoc, length-drop, take_all, arith}
 use Rattle.std.proofs.Math.Seq.{take-add}
 use Rattle.pg_io.specs.Streams.{WriteGives, Delivers}
 

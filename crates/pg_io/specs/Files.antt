@@ -1,5 +1,5 @@
 -- What a call that reads a file does.
-use Rattle.std.specs.Prelude.{◌≡◌, ◌≢◌, ◌⊎◌, ℕ, ◌<◌, ◌≤◌, List, length, Result, Ok, Err, ⊤}
+use Rattle.std.specs.Prelude.{◌≡◌, ◌≢◌, ℕ, ◌<◌, ◌≤◌, List, length, Result, Ok, Err, ⊤}
 use Rattle.pg_io.specs.declared.files.FileFault.{FileFault}
 use Rattle.pg_io.specs.declared.files.FileFault.TheVariants as fault
 use Rattle.pg_io.specs.Streams.{Rose}

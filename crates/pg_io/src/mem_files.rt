@@ -55,6 +55,7 @@ fn find<'a>(files: &'a [MemFile], name: &str) -> Option<&'a Blob>
 
 impl Files for MemFiles {
     ghost file = { λ files name. file_of files.files name };
+
     ghost faults = { λ files name. count_of files.counts name };
 
     fn read_file(&mut self, alloc: Global, name: &str, limit: usize) -> Result<Blob, FileFault> {

@@ -33,6 +33,7 @@ impl MemSource {
 
 impl Source for MemSource {
     ghost left = { λ source. Some (drop source.at source.bytes) };
+
     ghost faults = { λ source. source.faults };
 
     fn read(&mut self, into: &mut [u8]) -> Result<usize, Failed> {
@@ -81,6 +82,7 @@ impl MemSink {
 
 impl Sink for MemSink {
     ghost taken = { λ sink. Some sink.taken.items };
+
     ghost faults = { λ sink. sink.faults };
 
     fn write(&mut self, from: &[u8]) -> Result<usize, Failed> {

@@ -29,13 +29,16 @@ impl<R> StdFiles<R> {
 
 impl<R: SystemFiles> Files for StdFiles<R> {
     ghost file = { λ _ _. Untold };
+
     ghost faults = { λ files name. count_of files.counts name };
 
     fn read_file(&mut self, alloc: Global, name: &str, limit: usize) -> Result<Blob, FileFault> {
         match read_up_to(alloc, &self.system, name, limit) {
             Ok(bytes) if bytes.len() > limit => Err(FileFault::TooLarge),
             Ok(bytes) => Ok(Blob::of(bytes)),
-            Err(error) if error.kind() == ErrorKind::OutOfMemory => Err(FileFault::Memory(AllocError)),
+            Err(error) if error.kind() == ErrorKind::OutOfMemory => Err(FileFault::Memory(
+                AllocError,
+            )),
             Err(_) => {
                 self.counts.raise(alloc, name)?;
                 Err(FileFault::Failed)
@@ -45,7 +48,12 @@ impl<R: SystemFiles> Files for StdFiles<R> {
 }
 
 /// The bytes of the file, up to one past the limit.
-fn read_up_to<R: SystemFiles>(alloc: Global, system: &R, name: &str, limit: usize) -> io::Result<Vec<u8>> {
+fn read_up_to<R: SystemFiles>(
+    alloc: Global,
+    system: &R,
+    name: &str,
+    limit: usize,
+) -> io::Result<Vec<u8>> {
     let mut bytes = Vec::new(alloc);
     let room = (limit as u64).saturating_add(1);
     fs::open(system, name)?.take(room).read_to_end(&mut bytes)?;

@@ -20,6 +20,7 @@ impl<R> StdSource<R> {
 
 impl<R: Read> Source for StdSource<R> {
     ghost left = { λ _. None };
+
     ghost faults = { λ source. source.faults };
 
     fn read(&mut self, into: &mut [u8]) -> Result<usize, Failed> {
@@ -48,6 +49,7 @@ impl<W> StdSink<W> {
 
 impl<W: Write> Sink for StdSink<W> {
     ghost taken = { λ _. None };
+
     ghost faults = { λ sink. sink.faults };
 
     fn write(&mut self, from: &[u8]) -> Result<usize, Failed> {

@@ -1,4 +1,4 @@
-use Rattle.std.proofs.Common.{◌≡◌, ◌∙◌, sym, subst, List, true, false, take, take_all, arith, rules}
+use Rattle.std.proofs.Common.{◌≡◌, sym, subst, List, true, false, take_all, rules}
 use Rattle.std.specs.Str.{bytes_eq}
 use Rattle.pg_base.proofs.ListSteps.{take_item}
 use Rattle.pg_io.specs.declared.counts.NameCount.{NameCount}

@@ -1,4 +1,4 @@
-use Rattle.std.proofs.Common.{drop, take}
+use Rattle.std.proofs.Common.{take}
 use Rattle.pg_io.proofs.ByName.{NoneNamed}
 use Rattle.pg_io.proofs.counts.place_of.Given as goal
 

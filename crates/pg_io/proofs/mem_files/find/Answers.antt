@@ -1,4 +1,4 @@
-use Rattle.std.proofs.Common.{◌≡◌, ◌∙◌, sym, true, false, rules}
+use Rattle.std.proofs.Common.{◌≡◌, ◌∙◌, true, false, rules}
 use Rattle.std.specs.Str.{bytes_eq}
 use Rattle.pg_base.proofs.ListSteps.{drop-past}
 use Rattle.pg_io.proofs.ByName.{file_of-hit, file_of-miss, file_of-none}

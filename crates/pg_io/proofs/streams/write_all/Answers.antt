@@ -1,5 +1,5 @@
-use Rattle.std.proofs.Common.{◌∙◌, length-drop, rules, arith}
-use Rattle.pg_io.proofs.Delivered.{delivered_more, rest_is, length-rest}
+use Rattle.std.proofs.Common.{◌∙◌, arith}
+use Rattle.pg_io.proofs.Delivered.{delivered_more, length-rest}
 use Rattle.pg_io.proofs.streams.write_all.Goals as goal
 
 pub pieces-preserved : goal.pieces-preserved

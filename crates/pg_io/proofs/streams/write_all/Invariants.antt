@@ -1,4 +1,4 @@
-use Rattle.std.proofs.Common.{◌≡◌, ℕ, ◌-◌, ◌≤◌, ◌++◌, List, length, take, Ok}
+use Rattle.std.proofs.Common.{◌≡◌, ◌-◌, ◌≤◌, length, take, Ok}
 use Rattle.pg_io.proofs.streams.write_all.Given as goal
 use Rattle.pg_io.specs.Streams.{Delivers}
 
