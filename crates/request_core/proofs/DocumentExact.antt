@@ -1,14 +1,13 @@
 -- The reader of documents is exact for their form.
-use Rattle.std.proofs.Common.{◌≡◌, ℕ, zero, suc, ◌+◌, ◌<◌, ◌≤◌, Bool, true, false, cond, List, [], ◌∷◌, ◌++◌, length, Option, Some, None, Result, Ok, Err, refl, sym, ap, subst, ◌∙◌, length-append, arith}
+use Rattle.std.proofs.Common.{◌≡◌, ℕ, zero, suc, ◌<◌, ◌≤◌, Bool, true, false, List, [], ◌∷◌, ◌++◌, length, Option, Some, None, Err, refl, sym, ap, subst, ◌∙◌, length-append, arith}
 use Rattle.std.proofs.lemmas.Slice.Eq.{bytes_eq-Decides}
-use Rattle.std.specs.Prelude.{codes}
 use Rattle.std.specs.Str.{bytes_eq}
 use Rattle.request_core.specs.declared.fault.FormFault.{FormFault}
 use Rattle.request_core.specs.declared.fault.FormFault.TheVariants as fault
 use Rattle.request_core.specs.declared.token.Blanks.{Blanks}
 use Rattle.request_core.specs.declared.token.Blanks.TheVariants.{OfDocuments}
-use Rattle.request_core.specs.Tokens.{Token, Word, Number, Quoted, Sign, minus, Spells, IsToken, Pass, is_letter, is_plain}
-use Rattle.request_core.specs.Rules.{Rule, Reader, token_rule, and_then, ◌>>=◌, pure}
+use Rattle.request_core.specs.Tokens.{Token, Word, Number, Quoted, Sign, minus, Spells, IsToken, Pass, is_letter}
+use Rattle.request_core.specs.Rules.{Reader, token_rule, and_then, ◌>>=◌, pure}
 use Rattle.request_core.specs.ScriptForm.{when, is_word, is_sign}
 use Rattle.request_core.specs.DocumentForm.{any_word, words_rule, names_rule, selection_rule}
 use Rattle.request_core.specs.Reading.{document_word, document_sign, any_document_word, closed_by, words, all_words, names, selection, Reads, GivesOrWants}

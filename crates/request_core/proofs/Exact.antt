@@ -1,7 +1,7 @@
 -- A reader is exact for a rule: it gives a value, and the bytes behind it, exactly where the rule holds.
 use Rattle.std.proofs.Common.{◌≡◌, ℕ, zero, suc, List, [], ◌∷◌, ◌++◌, take_while, Option, Some, None, refl, sym, ap, subst, ◌∙◌, append-nil}
 use Rattle.request_core.specs.declared.token.Blanks.{Blanks}
-use Rattle.request_core.specs.Tokens.{Token, IsToken, token, Pass, is_blank, behind}
+use Rattle.request_core.specs.Tokens.{Token, token, Pass, is_blank, behind}
 use Rattle.request_core.specs.Rules.{Rule, token_rule, bind_rule, pure_rule, more_rule, Reader, and_then, ◌>>=◌, pure, with_rest, taken, token_reader, more_by, closed, more}
 use Rattle.request_core.specs.Reading.{when_empty, ended}
 use Rattle.request_core.specs.ScriptForm.{end_rule}

@@ -1,28 +1,27 @@
 -- What a table in the form gives is a valid catalog with valid rows.
-use Rattle.std.proofs.Common.{◌≡◌, ◌≢◌, ◌⊎◌, inl, inr, ℕ, zero, suc, ℤ, pos, negsuc, ◌+◌, ◌-◌, ◌*◌, ◌^◌, ◌<◌, ◌≤◌, Bool, true, false, cond, ◌&&◌, not, nat_le, nat_lt, List, [], ◌∷◌, ◌++◌, map, length, replicate, Option, Some, None, refl, sym, ap, subst, ◌∙◌, arith, rules}
+use Rattle.std.proofs.Common.{◌≡◌, ◌≢◌, ◌⊎◌, inl, inr, ℕ, zero, suc, ℤ, pos, ◌+◌, ◌^◌, ◌<◌, ◌≤◌, Bool, true, false, cond, ◌&&◌, not, nat_le, nat_lt, List, [], ◌∷◌, map, length, replicate, Option, Some, None, refl, sym, ap, subst, ◌∙◌, arith}
 use Rattle.std.proofs.lemmas.Bool.Decides.{nat_tests}
 use Rattle.std.proofs.lemmas.Int.{ints}
-use Rattle.std.specs.Prelude.{FitsSigned, IsTrue, slice_get, unwrap_or, codes, neg_ℤ}
+use Rattle.std.specs.Prelude.{FitsSigned, codes, neg_ℤ}
 use Rattle.std.specs.Int.{w32}
 use Rattle.std.specs.List.{list_all}
 use Rattle.std.specs.Str.{bytes_eq}
 use Rattle.pg_base.specs.Lists.{Each, AreDistinct, EachPair}
-use Rattle.pg_base.specs.Kind.{IsKind, CanCount, family, longest_text}
+use Rattle.pg_base.specs.Kind.{IsKind, longest_text}
 use Rattle.pg_base.specs.Cell.{FitsKind}
-use Rattle.pg_base.specs.Catalog.{CatalogParts, IsValidColumn, IsValidKey, IsValidTable, IsValidCatalog, TakesNoNull}
+use Rattle.pg_base.specs.Catalog.{IsValidColumn, IsValidKey, IsValidCatalog, TakesNoNull}
 use Rattle.pg_base.specs.declared.kind.Kind.{Kind}
 use Rattle.pg_base.specs.declared.kind.Kind.TheVariants as kind
 use Rattle.pg_base.specs.declared.cell.Cell.{Cell}
 use Rattle.pg_base.specs.declared.cell.Cell.TheVariants as cell
 use Rattle.pg_base.specs.declared.table_def.ColumnDef.{ColumnDef}
 use Rattle.rel_model.specs.Numbered.{numbered}
-use Rattle.rel_model.specs.Tables.{FitsColumn, cells_at, HoldNoNull, AgreeAt, IsUniqueIn, AreNumbered, greatest, IsCounter, IsValidList, AreValidTables}
-use Rattle.rel_model.specs.declared.tables.Row.{Row}
+use Rattle.rel_model.specs.Tables.{FitsColumn, cells_at, AgreeAt, IsUniqueIn, AreNumbered, IsCounter, AreValidTables}
 use Rattle.request_core.specs.declared.ddl_reader.TableForm.{TableForm}
 use Rattle.request_core.specs.Tokens.{Token, Word, Number, Quoted, Sign, is_lower}
 use Rattle.request_core.specs.Rules.{Rule, more_rule}
-use Rattle.request_core.specs.ScriptForm.{when, is_name, is_reserved, name_of, kind_of, one_letter, is_table_letter, letter_of, integer_of, int_cell, number, number_cell, quoted_cell, cell_of, column_of, first_column_rule, column_rule, columns_rule, cells_rule, row_rule, rows_rule, tail, table_rule, key_cell, sign_rule, IsScript, IsUnambiguous}
-use Rattle.request_core.specs.Loading.{key_of, table_by, table_of, catalog_of, list_of, tables_of}
+use Rattle.request_core.specs.ScriptForm.{when, is_name, is_reserved, name_of, kind_of, is_table_letter, letter_of, integer_of, int_cell, number, number_cell, quoted_cell, cell_of, column_of, first_column_rule, column_rule, columns_rule, cells_rule, row_rule, rows_rule, tail, table_rule, key_cell, sign_rule, IsScript}
+use Rattle.request_core.specs.Loading.{key_of, catalog_of, tables_of}
 
 when_is : {A : Type 0} (v : Bool) (a b : A) → when v a ≡ Some b → (v ≡ true) × (a ≡ b)
 when_is true a b e = (refl, cc)

@@ -6,7 +6,7 @@ use Rattle.pg_base.specs.declared.table_def.ColumnDef.{ColumnDef}
 use Rattle.pg_base.proofs.ListSteps.{drop-item, drop-past}
 use Rattle.rel_model.specs.declared.tables.Row.{Row}
 use Rattle.json_out.specs.JsonText.{json_key}
-use Rattle.request_core.specs.Response.{Value, only, opened, response_by, text_of, object, array, fields, nodes, more_members, more_elements, members_text, elements_text, field_text, key_text, cell_text}
+use Rattle.request_core.specs.Response.{Value, only, opened, response_by, text_of, object, array, fields, nodes, more_members, more_elements, field_text, key_text, cell_text}
 
 -- two pieces behind what was there
 pub two : (start middle end a b : List ℕ) → middle ≡ start ++ a → end ≡ middle ++ b → end ≡ start ++ (a ++ b)

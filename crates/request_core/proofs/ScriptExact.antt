@@ -1,17 +1,16 @@
 -- The reader of scripts is exact for their form.
-use Rattle.std.proofs.Common.{◌≡◌, ℕ, List, [], ◌∷◌, Some, None, refl, sym, ap, subst, ◌∙◌, Bool, true, false, cond, ◌==◌, Result, Ok, Err, IfOk, arith}
+use Rattle.std.proofs.Common.{◌≡◌, ℕ, List, [], ◌∷◌, Some, None, refl, sym, ap, subst, ◌∙◌, Bool, true, false, ◌==◌, Err, arith}
 use Rattle.std.proofs.lemmas.Bool.Decides.{nat_tests}
 use Rattle.pg_base.specs.declared.kind.Kind.TheVariants as kinds
-use Rattle.pg_base.specs.declared.cell.Cell.{Cell}
 use Rattle.pg_base.specs.declared.table_def.ColumnDef.{ColumnDef}
 use Rattle.request_core.specs.declared.ddl_reader.TableForm.{TableForm}
 use Rattle.request_core.specs.declared.token.Blanks.{Blanks}
 use Rattle.request_core.specs.declared.token.Blanks.TheVariants.{OfScripts}
 use Rattle.request_core.specs.declared.fault.FormFault.{FormFault}
 use Rattle.request_core.specs.declared.fault.FormFault.TheVariants as fault
-use Rattle.request_core.specs.Tokens.{Token, Word, Number, Quoted, Sign, IsToken, token}
-use Rattle.request_core.specs.Rules.{token_rule, Reader}
-use Rattle.request_core.specs.ScriptForm.{when, is_word, is_sign, letter_of, name_of, kind_of, cell_of, word_rule, sign_rule, column_of, first_column_rule, column_rule, columns_rule, cells_rule, row_rule, rows_rule, tail, table_rule, end_rule, IsScript, IsUnambiguous}
+use Rattle.request_core.specs.Tokens.{Token, Word, Number, Quoted, Sign}
+use Rattle.request_core.specs.Rules.{token_rule}
+use Rattle.request_core.specs.ScriptForm.{when, is_word, is_sign, letter_of, name_of, kind_of, cell_of, word_rule, sign_rule, column_of, first_column_rule, column_rule, columns_rule, cells_rule, row_rule, rows_rule, tail, table_rule, IsScript, IsUnambiguous}
 use Rattle.request_core.specs.Reading.{word, sign, first_column, column, columns, cells, row, rows, table, Reads, GivesOrWants}
 use Rattle.request_core.proofs.TokenExact.{token_all}
 use Rattle.request_core.proofs.Exact.{Exact, token_exact, bind_exact, pure_exact, more_exact, end_exact, Ends, end_ends}

@@ -1,9 +1,9 @@
 -- The first token of some bytes is read exactly where it is spelled.
-use Rattle.std.proofs.Common.{◌≡◌, ◌≢◌, ℕ, ◌≤◌, Bool, true, false, cond, ◌&&◌, ◌||◌, nat_le, ◌==◌, List, [], ◌∷◌, ◌++◌, length, take_while, Option, Some, None, refl, sym, ap, subst, ◌∙◌, arith}
+use Rattle.std.proofs.Common.{◌≡◌, ◌≢◌, ℕ, Bool, true, false, cond, ◌==◌, List, [], ◌∷◌, ◌++◌, take_while, Some, None, refl, sym, ap, subst, ◌∙◌, arith}
 use Rattle.std.proofs.lemmas.Bool.Decides.{nat_tests}
 use Rattle.request_core.specs.declared.token.Blanks.{Blanks}
 use Rattle.request_core.specs.Tokens.{Token, Word, Number, Quoted, Sign, is_letter, is_digit, is_plain, is_sign, is_blank, Pass, StopsAt, minus, Spells, IsToken, IsProper, behind, Found, number_of, number_at, quoted_of, token_at, token}
-use Rattle.request_core.proofs.Runs.{run-true, run-false, run-passes, run-stops, run-whole, run-is, behind-is}
+use Rattle.request_core.proofs.Runs.{run-true, run-passes, run-stops, run-whole, run-is, behind-is}
 
 pick_true : {A : Type 0} (v : Bool) (a b c : A) → cond v a b ≡ c → v ≡ true → a ≡ c
 pick_true v a b c h e = sym (ap (λ (w : Bool). cond w a b) e) ∙ h

@@ -1,5 +1,5 @@
 -- Beside the loops of the readers: their turns and their ends.
-use Rattle.std.proofs.Common.{◌≡◌, ℕ, zero, suc, ◌+◌, ◌-◌, ◌<◌, ◌≤◌, Bool, true, false, cond, List, [], ◌∷◌, ◌++◌, length, get_or, drop, Option, Some, None, refl, sym, ap, subst, ◌∙◌, append_assoc, append-nil, arith}
+use Rattle.std.proofs.Common.{◌≡◌, ℕ, suc, ◌+◌, ◌-◌, ◌<◌, ◌≤◌, Bool, true, false, List, [], ◌∷◌, ◌++◌, length, get_or, drop, Option, Some, None, refl, sym, ap, ◌∙◌, append_assoc, append-nil, arith}
 use Rattle.pg_base.proofs.ListSteps.{drop-item, drop-past}
 use Rattle.pg_base.specs.declared.cell.Cell.{Cell}
 use Rattle.pg_base.specs.declared.table_def.ColumnDef.{ColumnDef}

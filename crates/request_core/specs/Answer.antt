@@ -1,5 +1,5 @@
 -- What a script gives, and the answer to a document over it.
-use Rattle.std.specs.Prelude.{◌≡◌, ℕ, List, [], Option, Some, None, slice_get, IsSomeAnd}
+use Rattle.std.specs.Prelude.{◌≡◌, ℕ, List, [], Option, Some, slice_get, IsSomeAnd}
 use Rattle.pg_base.specs.Catalog.{CatalogParts}
 use Rattle.pg_base.specs.declared.table_def.TableDef.{TableDef}
 use Rattle.rel_model.specs.declared.tables.TableRows.{TableRows}

@@ -1,5 +1,5 @@
 -- The form of documents over a table of one letter: { allLs { nodes { c {c} } } }.
-use Rattle.std.specs.Prelude.{◌≡◌, ℕ, ◌-◌, Bool, true, List, [], ◌∷◌, ◌++◌, map, length, slice_get, IsSomeAnd, Option, Some, None, codes}
+use Rattle.std.specs.Prelude.{◌≡◌, ℕ, ◌-◌, List, [], ◌∷◌, ◌++◌, slice_get, IsSomeAnd, Option, Some, None, codes}
 use Rattle.pg_base.specs.Lists.{AreDistinct, EachPair}
 use Rattle.pg_base.specs.declared.table_def.ColumnDef.{ColumnDef}
 use Rattle.pg_base.specs.declared.table_def.TableDef.{TableDef}

@@ -1,5 +1,5 @@
 -- The catalog and the opening rows that a table in the form gives.
-use Rattle.std.specs.Prelude.{ℕ, ◌+◌, Bool, true, false, List, [], ◌∷◌, ◌++◌, length, replicate, pos, codes}
+use Rattle.std.specs.Prelude.{ℕ, ◌+◌, true, List, [], ◌∷◌, length, replicate, pos, codes}
 use Rattle.pg_base.specs.Tags.{no_tags}
 use Rattle.pg_base.specs.Catalog.{CatalogParts}
 use Rattle.pg_base.specs.declared.table_def.ColumnDef.{ColumnDef}

@@ -1,5 +1,5 @@
 -- The readers of the forms as functions on lists of bytes, and what the functions that read ensure.
-use Rattle.std.specs.Prelude.{◌≡◌, ℕ, zero, suc, length, Bool, true, false, List, [], ◌∷◌, ◌++◌, Option, Some, None, Result, Ok, Err, codes, take_while, ⊤}
+use Rattle.std.specs.Prelude.{◌≡◌, ℕ, zero, suc, length, Bool, true, false, List, [], ◌∷◌, ◌++◌, Option, Some, None, Result, Ok, Err, codes, ⊤}
 use Rattle.pg_base.specs.declared.kind.Kind.{Kind}
 use Rattle.pg_base.specs.declared.kind.Kind.TheVariants as kinds
 use Rattle.pg_base.specs.declared.cell.Cell.{Cell}
@@ -9,7 +9,7 @@ use Rattle.request_core.specs.declared.token.Blanks.TheVariants.{OfScripts, OfDo
 use Rattle.request_core.specs.declared.fault.FormFault.{FormFault}
 use Rattle.request_core.specs.declared.fault.FormFault.TheVariants as fault
 use Rattle.request_core.specs.declared.ddl_reader.TableForm.{TableForm}
-use Rattle.request_core.specs.Tokens.{Token, is_blank, behind}
+use Rattle.request_core.specs.Tokens.{is_blank, behind}
 use Rattle.request_core.specs.Rules.{Reader, ◌>>=◌, pure, token_reader, more}
 use Rattle.request_core.specs.DocumentForm.{any_word}
 use Rattle.request_core.specs.ScriptForm.{is_word, is_sign, letter_of, name_of, kind_of, cell_of, column_of, tail}

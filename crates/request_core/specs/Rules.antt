@@ -1,8 +1,7 @@
 -- What the two forms are written with. A rule holds between the bytes from its first on, the bytes behind it, and what it
 -- gives; the readers of the forms are functions on lists of bytes, each for one rule.
-use Rattle.std.specs.Prelude.{◌≡◌, ◌⊎◌, ℕ, zero, suc, Bool, true, List, [], ◌∷◌, Option, Some, None}
+use Rattle.std.specs.Prelude.{◌≡◌, ℕ, zero, suc, List, [], ◌∷◌, Option, Some, None}
 use Rattle.request_core.specs.declared.token.Blanks.{Blanks}
-use Rattle.request_core.specs.declared.token.Blanks.TheVariants.{OfScripts, OfDocuments}
 use Rattle.request_core.specs.Tokens.{Token, IsToken, token}
 
 abbrev pub Rule : Type 0 → Type 1

@@ -1,5 +1,5 @@
 -- The tokens of the two forms: what spells each, and the first one of some bytes.
-use Rattle.std.specs.Prelude.{◌≡◌, ◌≢◌, ℕ, ◌+◌, Bool, true, false, ◌&&◌, ◌||◌, ◌==◌, not, nat_le, if◌then◌else◌, List, [], ◌∷◌, ◌++◌, length, drop, take_while, Option, Some, None, ⊤}
+use Rattle.std.specs.Prelude.{◌≡◌, ◌≢◌, ℕ, Bool, true, false, ◌&&◌, ◌||◌, ◌==◌, not, nat_le, if◌then◌else◌, List, [], ◌∷◌, ◌++◌, length, drop, take_while, Option, Some, None, ⊤}
 use Rattle.pg_base.specs.Lists.{Each}
 use Rattle.request_core.specs.declared.token.Blanks.{Blanks}
 use Rattle.request_core.specs.declared.token.Blanks.TheVariants.{OfScripts, OfDocuments}

@@ -1,8 +1,7 @@
-use Rattle.std.proofs.Common.{◌≡◌, ℕ, List, Bool, true, false, not, sym, ◌∙◌, rules}
+use Rattle.std.proofs.Common.{◌≡◌, true, false, rules}
 use Rattle.std.proofs.lemmas.Slice.Eq.{bytes_eq-Decides}
 use Rattle.std.specs.List.{list_any}
 use Rattle.std.specs.Str.{bytes_eq}
-use Rattle.request_core.specs.declared.ddl_reader.TableForm.{TableForm}
 use Rattle.pg_base.specs.declared.table_def.ColumnDef.{ColumnDef}
 use Rattle.request_core.proofs.Distinct.{clash_at, grown}
 use Rattle.request_core.proofs.ddl_reader.have_distinct_names.Goals as goal

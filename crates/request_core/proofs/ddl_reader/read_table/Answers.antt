@@ -1,4 +1,4 @@
-use Rattle.std.proofs.Common.{true, sym, subst, rules}
+use Rattle.std.proofs.Common.{sym, subst, rules}
 use Rattle.request_core.specs.declared.ddl_reader.TableForm.{TableForm}
 use Rattle.request_core.specs.ScriptForm.{IsUnambiguous}
 use Rattle.request_core.proofs.ScriptExact.{script_ok, script_same, script_none}

@@ -1,5 +1,3 @@
-use Rattle.std.proofs.Common.{List, ℕ, sym, subst}
-use Rattle.std.specs.Str.{IsUtf8}
 use Rattle.request_core.proofs.Ascii.{letters_utf8}
 use Rattle.request_core.proofs.ddl_reader.word_text.Goals as goal
 

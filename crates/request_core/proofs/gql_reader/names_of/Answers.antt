@@ -1,7 +1,7 @@
 use Rattle.std.proofs.lemmas.Slice.Eq.{bytes_eq-Decides}
 use Rattle.std.specs.Str.{bytes_eq}
 use Rattle.pg_base.specs.declared.table_def.ColumnDef.{ColumnDef}
-use Rattle.request_core.proofs.Distinct.{fresh_at, grown_keys}
+use Rattle.request_core.proofs.Distinct.{grown_keys}
 use Rattle.request_core.proofs.gql_reader.names_of.Goals as goal
 
 pub loop-column-preserved : goal.loop-column-preserved

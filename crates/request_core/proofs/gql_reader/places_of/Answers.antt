@@ -1,4 +1,4 @@
-use Rattle.std.proofs.Common.{◌≡◌, ℕ, List, false, Some, sym, ap, subst, ◌∙◌, ◌++◌, ◌∷◌, [], ◌+◌, take, map, take_all, rules}
+use Rattle.std.proofs.Common.{◌≡◌, ℕ, List, false, Some, sym, ap, subst, ◌∙◌, ◌++◌, ◌∷◌, [], ◌+◌, take, map, take_all}
 use Rattle.std.specs.List.{list_any, position}
 use Rattle.std.specs.Str.{bytes_eq}
 use Rattle.pg_base.specs.Lists.{EachPair}

@@ -1,4 +1,4 @@
-use Rattle.std.proofs.Common.{◌≡◌, map, take}
+use Rattle.std.proofs.Common.{take}
 use Rattle.pg_base.specs.Lists.{EachPair}
 use Rattle.request_core.specs.DocumentForm.{IsColumnOf}
 use Rattle.request_core.proofs.gql_reader.places_of.Given as goal

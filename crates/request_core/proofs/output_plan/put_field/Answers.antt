@@ -1,4 +1,4 @@
-use Rattle.std.proofs.Common.{List, ℕ, ap, ◌∙◌, ◌++◌, Option}
+use Rattle.std.proofs.Common.{ap, ◌∙◌, ◌++◌, Option}
 use Rattle.pg_base.specs.declared.cell.Cell.{Cell}
 use Rattle.pg_base.specs.declared.table_def.ColumnDef.{ColumnDef}
 use Rattle.request_core.specs.Response.{key_text, cell_text}

@@ -1,5 +1,3 @@
-use Rattle.std.proofs.Common.{List, ℕ, sym, subst}
-use Rattle.std.specs.Str.{IsUtf8}
 use Rattle.request_core.proofs.Ascii.{plain_utf8}
 use Rattle.request_core.proofs.rows_reader.text_cell.Goals as goal
 
