@@ -1,8 +1,8 @@
 -- Two pieces that are given to a sink, one after the other.
-use Rattle.std.proofs.Common.{◌≡◌, ℕ, ◌+◌, ◌≤◌, List, [], ◌∷◌, ◌++◌, length, take, Option, Some, None, Result, Ok, Err, sym, ap, subst, ◌∙◌, append_assoc, length-append, arith}
+use Rattle.std.proofs.Common.{◌≡◌, ℕ, ◌+◌, List, ◌++◌, length, take, Option, Some, None, Result, Ok, Err, sym, ap, subst, ◌∙◌, append_assoc, length-append, arith}
 use Rattle.std.proofs.lemmas.List.{take-append-le}
 use Rattle.std.proofs.Math.Seq.{take-append-add}
-use Rattle.pg_io.specs.Streams.{Rose, HasCause, Delivers}
+use Rattle.pg_io.specs.Streams.{HasCause, Delivers}
 use Rattle.pg_io.specs.declared.streams.Failed.{Failed}
 
 abbrev Outcome : Type 0

@@ -1,12 +1,11 @@
 -- What is known of a file's bytes, where they are told.
-use Rattle.std.proofs.Common.{◌≡◌, ◌≢◌, ◌⊎◌, inl, inr, ℕ, ◌<◌, ◌≤◌, Bool, true, false, List, length, sym, ap, subst, ◌∙◌, arith}
+use Rattle.std.proofs.Common.{◌≡◌, ℕ, ◌<◌, ◌≤◌, Bool, true, false, List, length, sym, subst, arith}
 use Rattle.std.proofs.lemmas.Slice.Eq.{bytes_eq-Decides}
 use Rattle.std.specs.Str.{bytes_eq}
 use Rattle.pg_base.specs.Catalog.{CatalogParts}
 use Rattle.pg_io.specs.Files.{Told, Untold, Absent, Holds, OthersStay}
 use Rattle.rel_model.specs.declared.tables.Tables.{Tables}
-use Rattle.request_core.specs.Answer.{Gives, Selects, IsAnswer}
-use Rattle.graphile_prog.specs.Query.{IfHeld, IsScriptFile, IsNoScript, IsDocumentFile, IsNoDocument, IsResponse, IsOnlyScript, script_limit, document_limit}
+use Rattle.graphile_prog.specs.Query.{IfHeld, IsNoScript, IsNoDocument, IsResponse, IsOnlyScript, script_limit, document_limit}
 use Rattle.graphile_prog.specs.Refused.{HeldWithin, Loads, Answers, Responds}
 
 pub held_map : (told : Told) (P Q : List ℕ → Type 0) → ((bytes : List ℕ) → P bytes → Q bytes) → IfHeld told P → IfHeld told Q

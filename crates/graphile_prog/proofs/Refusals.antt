@@ -1,12 +1,12 @@
 -- What the reasons of one file say of the whole run.
-use Rattle.std.proofs.Common.{◌≡◌, ◌⊎◌, inl, inr, ℕ, ◌≤◌, List, length, Some, sym, ap, subst}
+use Rattle.std.proofs.Common.{◌≡◌, inl, inr, ℕ, List, Some, subst}
 use Rattle.pg_base.specs.Catalog.{CatalogParts}
 use Rattle.pg_io.specs.Streams.{Rose}
-use Rattle.pg_io.specs.Files.{Told, Holds}
+use Rattle.pg_io.specs.Files.{Told}
 use Rattle.rel_model.specs.declared.tables.Tables.{Tables}
-use Rattle.request_core.specs.Answer.{Gives, Selects}
+use Rattle.request_core.specs.Answer.{Gives}
 use Rattle.graphile_prog.specs.Words.{Query}
-use Rattle.graphile_prog.specs.Query.{IfHeld, IsScriptFile, IsNoScript, IsDocumentFile, IsNoDocument, IsOnlyScript}
+use Rattle.graphile_prog.specs.Query.{IfHeld, IsNoScript, IsOnlyScript}
 use Rattle.graphile_prog.specs.Refused.{HeldWithin, RefusesBytes, RefusesScript, RefusesDocument, Loads, Refuses}
 use Rattle.graphile_prog.specs.Run.{IsComplete}
 use Rattle.graphile_prog.specs.declared.status.Form.TheVariants as form

@@ -1,7 +1,7 @@
 -- What the command `query` owes for the files of its script and its document.
-use Rattle.std.specs.Prelude.{◌≡◌, ◌⊎◌, ℕ, ◌+◌, ◌*◌, ◌<◌, ◌≤◌, List, [], ◌∷◌, ◌++◌, length, take, Option, Some, None, Result, Ok, Err, ⊤}
+use Rattle.std.specs.Prelude.{ℕ, ◌≤◌, List, [], ◌∷◌, ◌++◌, length, Option, Some, None, Result, Ok, Err, ⊤}
 use Rattle.pg_base.specs.Catalog.{CatalogParts}
-use Rattle.pg_io.specs.Streams.{Rose, HasCause, Delivers}
+use Rattle.pg_io.specs.Streams.{HasCause, Delivers}
 use Rattle.pg_io.specs.Files.{Told, Untold, Absent, Holds}
 use Rattle.pg_io.specs.declared.streams.Failed.{Failed}
 use Rattle.rel_model.specs.declared.tables.Tables.{Tables}

@@ -58,7 +58,7 @@ fn run_query(
 
 #[test]
 fn query_writes_the_response_of_its_row(rt: HostRuntime) -> Result<(), Fail> {
-    let ended = run(
+    let ended = run_query(
         rt.alloc(),
         &["query", "t.sql", "q.graphql"],
         SCRIPT,
@@ -159,7 +159,7 @@ fn each_status_has_its_row(rt: HostRuntime) -> Result<(), Fail> {
 
 #[test]
 fn a_sink_that_fails_is_a_write_fault(rt: HostRuntime) -> Result<(), Fail> {
-    let ended = run(
+    let ended = run_query(
         rt.alloc(),
         &["query", "t.sql", "q.graphql"],
         SCRIPT,

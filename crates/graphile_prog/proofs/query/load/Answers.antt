@@ -1,4 +1,4 @@
-use Rattle.std.proofs.Common.{◌≡◌, ℕ, List, subst, sym, rules}
+use Rattle.std.proofs.Common.{ℕ, List, subst, sym, rules}
 use Rattle.pg_base.specs.Catalog.{CatalogParts}
 use Rattle.rel_model.specs.declared.tables.Tables.{Tables}
 use Rattle.request_core.specs.Answer.{Gives}

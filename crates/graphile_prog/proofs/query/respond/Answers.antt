@@ -1,4 +1,4 @@
-use Rattle.std.proofs.Common.{◌≡◌, ℕ, List, subst, rules}
+use Rattle.std.proofs.Common.{subst, rules}
 use Rattle.pg_io.specs.Files.{Told}
 use Rattle.graphile_prog.specs.Refused.{RefusesDocument}
 use Rattle.graphile_prog.proofs.Refusals.{refuses_all}

@@ -1,4 +1,4 @@
-use Rattle.std.proofs.Common.{◌≡◌, ℕ, List, Option, Some, sym, subst}
+use Rattle.std.proofs.Common.{Option, Some, sym, subst}
 use Rattle.graphile_prog.specs.Words.{Query}
 use Rattle.graphile_prog.specs.Run.{IsComplete}
 use Rattle.graphile_prog.specs.declared.status.Status.{Status}
