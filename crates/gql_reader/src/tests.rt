@@ -104,7 +104,10 @@ fn documents_are_read_with_all_their_parts(rt: HostRuntime) -> Result<(), Fail> 
     assert_eq!(rt; variable.name.bytes(), b"n".as_slice());
     assert_eq!(rt; variable.pos.column, 9);
     assert!(rt; matches!(variable.of, Type::List { non_null: true, .. }));
-    assert_eq!(rt; variable.directives.len() + operation.directives.len(), 2);
+    assert_eq!(rt;
+        (variable.directives.len(), operation.directives.len()),
+        (1, 1)
+    );
 
     let [Selection::Field(field)] = operation.selections.as_slice() else {
         return Err("selections".into());
