@@ -7,7 +7,7 @@ mod status;
 mod words;
 
 use pg_io::{StdFiles, StdSink, StdSource};
-use run::run_once;
+use run::{run_once, tell};
 use status::Status;
 use std::alloc::AllocError;
 use std::io::ErrorKind;
@@ -17,14 +17,13 @@ use std::{env, io};
 /// Hands the real files and streams to the run, and its status to the system.
 fn main(rt: HostRuntime) -> ExitCode {
     let alloc = rt.alloc();
-    let words = match words_of(&rt) {
-        Ok(words) => words,
-        Err(_) => Vec::new(alloc),
-    };
     let mut files = StdFiles::over(alloc, &rt);
     let mut source = StdSource::over(rt.stdin());
     let mut sink = StdSink::over(rt.stdout());
-    let status = run_once(alloc, words.as_slice(), &mut files, &mut source, &mut sink);
+    let status = match words_of(&rt) {
+        Ok(words) => run_once(alloc, words.as_slice(), &mut files, &mut source, &mut sink),
+        Err(AllocError) => tell(&mut sink, Status::Memory),
+    };
     ExitCode::from(status.exit_status())
 }
 

@@ -82,7 +82,7 @@ fn write_line<K: Sink>(sink: &mut K, text: &[u8]) -> Result<(), Failed>
 }
 
 /// Writes the line of a status, which stays where that fails.
-fn tell<K: Sink>(sink: &mut K, status: Status) -> Status
+pub fn tell<K: Sink>(sink: &mut K, status: Status) -> Status
     ensures same { result ≡ status }
     ensures line { spec.TookLine (line_of status) (K.taken sink.old) (K.taken sink.new) (K.faults sink.old) (K.faults sink.new) }
 {
