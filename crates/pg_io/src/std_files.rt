@@ -1,5 +1,6 @@
 //! The adapter over the files of the system. It tells nothing of what they hold.
 
+ghost use Rattle.std.specs.Prelude.{◌≡◌, ℕ, List};
 ghost use Rattle.pg_io.specs.Files.{Untold};
 ghost use Rattle.pg_io.specs.Counts.{count_of};
 
@@ -18,8 +19,12 @@ pub struct StdFiles<R> {
     counts: Counts,
 }
 
-impl<R> StdFiles<R> {
-    pub fn over(alloc: Global, system: R) -> StdFiles<R> {
+impl<R: SystemFiles> StdFiles<R> {
+    /// The files that the system shows, of which no call has failed.
+    #[tactic(auto, unfolding(crate::specs::Counts::count_of))]
+    pub fn over(alloc: Global, system: R) -> StdFiles<R>
+        ensures faults { (name : List ℕ) → ⟦<StdFiles<R> as Files>⟧.faults result name ≡ 0 }
+    {
         StdFiles {
             system,
             counts: Counts::none(alloc),

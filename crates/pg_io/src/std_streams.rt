@@ -12,8 +12,11 @@ pub struct StdSource<R> {
     faults: u64,
 }
 
-impl<R> StdSource<R> {
-    pub fn over(reader: R) -> StdSource<R> {
+impl<R: Read> StdSource<R> {
+    /// The reader as a source of which no call has failed.
+    pub fn over(reader: R) -> StdSource<R>
+        ensures faults { ⟦<StdSource<R> as Source>⟧.faults result ≡ 0 }
+    {
         StdSource { reader, faults: 0 }
     }
 }
@@ -41,8 +44,11 @@ pub struct StdSink<W> {
     faults: u64,
 }
 
-impl<W> StdSink<W> {
-    pub fn over(writer: W) -> StdSink<W> {
+impl<W: Write> StdSink<W> {
+    /// The writer as a sink of which no call has failed.
+    pub fn over(writer: W) -> StdSink<W>
+        ensures faults { ⟦<StdSink<W> as Sink>⟧.faults result ≡ 0 }
+    {
         StdSink { writer, faults: 0 }
     }
 }
