@@ -14,8 +14,7 @@ use Rattle.parse_rules.proofs.Outcomes.{done, done_is}
 use Rattle.parse_rules.proofs.Whole.{reads_sentences, reads_to, one_stop, never_both}
 use Rattle.std.proofs.lemmas.Bool.{eqb-true, eq-eqb}
 use Rattle.gql_reader.specs.declared.document.ReadFault.{ReadFault}
-use Rattle.gql_reader.specs.declared.document.DocumentError.{DocumentError}
-use Rattle.gql_reader.specs.declared.document.DocumentError.TheVariants as errors
+use Rattle.gql_reader.specs.declared.document.ReadFault.TheVariants.{At, Memory}
 use Rattle.gql_reader.specs.declared.lexeme.Lexeme.{Lexeme}
 use Rattle.gql_reader.specs.declared.lexeme.Mark.{Mark}
 use Rattle.gql_reader.specs.declared.sort.Sort.TheVariants as s
@@ -101,6 +100,12 @@ rest_fits bytes tokens front rest e = omega (arith, ap length e, length-append f
 
 -- ---- what the reader answers
 
+-- a fault is an error
+pub error_of : (ts : List Lexeme) (ending : Ending) (f : ReadFault) → IsFaultOf ts ending f → IsErrorOf ts ending f
+error_of ts ending Memory h = tt
+error_of ts ending (At which pos) h = h
+
+
 module _ (start ts rest : List Lexeme) (ending : Ending) (is_start : start ≡ ts) where
   at_start : (o : Outcome Lexeme (List Definition)) → definitions limit start ≡ o → definitions limit ts ≡ o
   at_start o e = ap (λ (z : List Lexeme). definitions limit z) (sym is_start) ∙ e
@@ -112,16 +117,16 @@ module _ (start ts rest : List Lexeme) (ending : Ending) (is_start : start ≡ t
       let same_rest : s.rest ≡ rest = (done_is xs xs s.rest rest (sym (read_to ts xs s) ∙ read)).1 in
       record { definitions = xs; read = s; whole = whole; some = some; made = made ∙ ap (λ (z : List Lexeme). document_of xs (next_mark z)) (sym same_rest) }
 
-  pub found_short : (xs : List Definition) (f : ReadFault) → definitions limit start ≡ Ok (xs, rest) → (is_end ending ≡ true → ts ≡ []) → f ≡ fault_at_end ending → IsFaultOf ts ending f
-  found_short xs f e short made = inr (record { definitions = xs; read = definitions_read.found ts rest xs (at_start (done xs rest) e); short = short; made = made })
+  pub found_short : (xs : List Definition) (f : ReadFault) → definitions limit start ≡ Ok (xs, rest) → (is_end ending ≡ true → ts ≡ []) → f ≡ fault_at_end ending → IsErrorOf ts ending f
+  found_short xs f e short made = error_of ts ending f (inr (record { definitions = xs; read = definitions_read.found ts rest xs (at_start (done xs rest) e); short = short; made = made }))
 
   pub stopped_front : definitions limit start ≡ Err rest → (front : List Lexeme) × AreStopped ts front rest
   stopped_front e = definitions_read.fault ts rest (at_start (Err rest) e)
 
-  pub found_stop : (depth : ℕ) (next : Option Mark) (f : ReadFault) → definitions limit start ≡ Err rest → ((front : List Lexeme) → ts ≡ front ++ rest → depth ≡ open_after brackets 0 front) → next ≡ next_mark rest → f ≡ fault_before ending depth next → IsFaultOf ts ending f
+  pub found_stop : (depth : ℕ) (next : Option Mark) (f : ReadFault) → definitions limit start ≡ Err rest → ((front : List Lexeme) → ts ≡ front ++ rest → depth ≡ open_after brackets 0 front) → next ≡ next_mark rest → f ≡ fault_before ending depth next → IsErrorOf ts ending f
   found_stop depth next f e counted is_next made =
       let y = stopped_front e in
-      inl (record { front = y.0; rest = rest; stop = y.1; made = made ∙ ap (λ (m : ℕ). fault_before ending m next) (counted y.0 y.1.whole) ∙ ap (λ (m : Option Mark). fault_before ending (open_after brackets 0 y.0) m) is_next })
+      error_of ts ending f (inl (record { front = y.0; rest = rest; stop = y.1; made = made ∙ ap (λ (m : ℕ). fault_before ending m next) (counted y.0 y.1.whole) ∙ ap (λ (m : Option Mark). fault_before ending (open_after brackets 0 y.0) m) is_next }))
 
 pub none_of : (bytes : List ℕ) (tokens : List Token) (empty : Bool) → empty ≡ (length tokens == 0) → empty ≡ true → lexemes_of bytes tokens ≡ []
 none_of bytes [] empty is hit = refl
@@ -135,18 +140,18 @@ some_of bytes tokens empty is miss e =
 
 -- ---- what is found is all that there is
 
-pub only_document : (ts : List Lexeme) (ending : Ending) (result : Result Document DocumentError) → IfOk result (IsDocumentOf ts ending) → IfErr result (IsErrorOf ts ending) → (d : Document) → IsDocumentOf ts ending d → ReadsAs result d
+pub only_document : (ts : List Lexeme) (ending : Ending) (result : Result Document ReadFault) → IfOk result (IsDocumentOf ts ending) → IfErr result (IsErrorOf ts ending) → (d : Document) → IsDocumentOf ts ending d → ReadsAs result d
 only_document ts ending (Ok e) found fault d h = one_document ts ending e d found h
-only_document ts ending (Err errors.Memory) found fault d h = tt
-only_document ts ending (Err (errors.Fault f)) found fault d h = never_document_and_fault ts ending d f h fault
+only_document ts ending (Err Memory) found fault d h = tt
+only_document ts ending (Err (At which pos)) found fault d h = never_document_and_fault ts ending d (At which pos) h fault
 
-pub only_fault : (ts : List Lexeme) (ending : Ending) (result : Result Document DocumentError) → IfOk result (IsDocumentOf ts ending) → IfErr result (IsErrorOf ts ending) → (f : ReadFault) → IsFaultOf ts ending f → FailsAs result f
+pub only_fault : (ts : List Lexeme) (ending : Ending) (result : Result Document ReadFault) → IfOk result (IsDocumentOf ts ending) → IfErr result (IsErrorOf ts ending) → (f : ReadFault) → IsFaultOf ts ending f → FailsAs result f
 only_fault ts ending (Ok e) found fault f h = never_document_and_fault ts ending e f found h
-only_fault ts ending (Err errors.Memory) found fault f h = tt
-only_fault ts ending (Err (errors.Fault g)) found fault f h = one_fault ts ending g f fault h
+only_fault ts ending (Err Memory) found fault f h = tt
+only_fault ts ending (Err (At which pos)) found fault f h = one_fault ts ending (At which pos) f fault h
 
 -- the same where the tokens and their ending are named otherwise
-module _ (us ts : List Lexeme) (from ending : Ending) (is_ts : us ≡ ts) (is_ending : from ≡ ending) (result : Result Document DocumentError) (found : IfOk result (IsDocumentOf us from)) (fault : IfErr result (IsErrorOf us from)) where
+module _ (us ts : List Lexeme) (from ending : Ending) (is_ts : us ≡ ts) (is_ending : from ≡ ending) (result : Result Document ReadFault) (found : IfOk result (IsDocumentOf us from)) (fault : IfErr result (IsErrorOf us from)) where
   found_here : IfOk result (IsDocumentOf ts ending)
   found_here = subst (λ (z : List Lexeme). IfOk result (IsDocumentOf z ending)) is_ts (subst (λ (e : Ending). IfOk result (IsDocumentOf us e)) is_ending found)
 

@@ -5,9 +5,9 @@ use std::test::Fail;
 /// The number, line and column of a text's fault, or zeros where it has none.
 fn fault_of(alloc: Global, bytes: &[u8]) -> (u8, u32, u32) {
     match read_document(alloc, bytes) {
-        Err(DocumentError::Fault(fault)) => (fault.which, fault.pos.line, fault.pos.column),
+        Err(ReadFault::At { which, pos }) => (which, pos.line, pos.column),
         Ok(_) => (0, 0, 0),
-        Err(DocumentError::Memory) => (9, 0, 0),
+        Err(ReadFault::Memory) => (9, 0, 0),
     }
 }
 
