@@ -11,6 +11,7 @@ mod std_files;
 mod std_streams;
 mod streams;
 
+pub use failing::Planned;
 pub use files::{FileFault, Files};
 pub use mem_files::{MemFile, MemFiles};
 pub use mem_streams::{MemSink, MemSource};
