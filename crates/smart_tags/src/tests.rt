@@ -2,115 +2,71 @@
 
 use crate::read_tags;
 use pg_base::Text;
+use std::alloc::{AllocError, Global};
 use std::test::Fail;
 
-const ON: [bool; 8] = [true; 8];
+/// Comments, a bar, and what is read of each: name, fieldName, foreignFieldName, deprecated, description, `-` for each
+/// that there is not, and what is on of select, list, connection, insert, update, delete, order, filter. A bar ends each.
+const ROWS: [&str; 25] = [
+    "|-|-|-|-|-|11111111|",
+    "A table.|-|-|-|-|A table.|11111111|",
+    "@name users\nAll of them.\r\nAll.|users|-|-|-|All of them.\nAll.|11111111|",
+    "@name a b \r\n@name c|a b |-|-|-|-|11111111|",
+    "@fieldName f\n@foreignFieldName g\n|-|f|g|-|-|11111111|",
+    "@deprecated Use é.\n\n|-|-|-|Use é.|\n|11111111|",
+    "text\n@name x|-|-|-|-|text\n@name x|11111111|",
+    " @name x|-|-|-|-| @name x|11111111|",
+    "\n@name x|-|-|-|-|\n@name x|11111111|",
+    "@name||-|-|-|-|11111111|",
+    "@name  x| x|-|-|-|-|11111111|",
+    "@|-|-|-|-|-|11111111|",
+    "@names x\n@Name y\n@ name z|-|-|-|-|-|11111111|",
+    "@name x\ry\nd\re|x\ry|-|-|-|d\re|11111111|",
+    "@name x\r\n\r\nd|x|-|-|-|\nd|11111111|",
+    "@behavior|-|-|-|-|-|11111111|",
+    "@behavior -select|-|-|-|-|-|01111111|",
+    "@behavior -list -connection|-|-|-|-|-|10011111|",
+    "@behavior -insert -update -delete -order -filter|-|-|-|-|-|11100000|",
+    "@behavior -select +select -list|-|-|-|-|-|10111111|",
+    "@behavior +order -order\n@name x\n@behavior -filter +order|x|-|-|-|-|11111110|",
+    "@behavior -insert\n@behavior +insert\ntext\n@behavior -update|-|-|-|-|text\n@behavior -update|11111111|",
+    "@behavior  -select  -selects select *list -|-|-|-|-|-|01111111|",
+    "@behaviour -select\n@behavior -SELECT|-|-|-|-|-|11111111|",
+    "@behavior -delete\r\n@behavior -update\r\n|-|-|-|-|-|11110011|",
+];
 
-/// Tells whether a tag has this value, or there is none where the value is `-`.
-fn is_value(value: &Option<Text>, want: &str) -> bool {
+fn put_value(shown: &mut Vec<u8>, value: &Option<Text>) -> Result<(), AllocError> {
     match value {
-        None => want == "-",
-        Some(text) => text.bytes() == want.as_bytes(),
+        None => shown.push(b'-')?,
+        Some(text) => shown.extend_from_slice(text.bytes())?,
     }
-}
-
-#[test]
-fn values(rt: HostRuntime) -> Result<(), Fail> {
-    // the comment; name, fieldName, foreignFieldName, deprecated, description
-    let cases = [
-        ("", "-", "-", "-", "-", "-"),
-        ("A table.", "-", "-", "-", "-", "A table."),
-        (
-            "@name users\nAll of them.\r\nAll.",
-            "users",
-            "-",
-            "-",
-            "-",
-            "All of them.\nAll.",
-        ),
-        ("@name a b \r\n@name c", "a b ", "-", "-", "-", "-"),
-        (
-            "@fieldName f\n@foreignFieldName g\n",
-            "-",
-            "f",
-            "g",
-            "-",
-            "-",
-        ),
-        ("@deprecated Use é.\n\n", "-", "-", "-", "Use é.", "\n"),
-        ("text\n@name x", "-", "-", "-", "-", "text\n@name x"),
-        (" @name x", "-", "-", "-", "-", " @name x"),
-        ("\n@name x", "-", "-", "-", "-", "\n@name x"),
-        ("@name", "", "-", "-", "-", "-"),
-        ("@name  x", " x", "-", "-", "-", "-"),
-        ("@", "-", "-", "-", "-", "-"),
-        ("@names x\n@Name y\n@ name z", "-", "-", "-", "-", "-"),
-        ("@name x\ry\nd\re", "x\ry", "-", "-", "-", "d\re"),
-        ("@name x\r\n\r\nd", "x", "-", "-", "-", "\nd"),
-    ];
-    for (comment, name, field_name, foreign_field_name, deprecated, description) in cases {
-        let text = Text::of(rt.alloc(), comment)?;
-        let tags = read_tags(rt.alloc(), &text)?;
-        assert!(rt; is_value(&tags.name, name), "name of {comment:?}");
-        assert!(rt;
-            is_value(&tags.field_name, field_name),
-            "fieldName of {comment:?}"
-        );
-        assert!(rt;
-            is_value(&tags.foreign_field_name, foreign_field_name),
-            "foreignFieldName of {comment:?}"
-        );
-        assert!(rt;
-            is_value(&tags.deprecated, deprecated),
-            "deprecated of {comment:?}"
-        );
-        assert!(rt;
-            is_value(&tags.description, description),
-            "description of {comment:?}"
-        );
-        assert!(rt; tags.behavior == ON, "behavior of {comment:?}");
-    }
+    shown.push(b'|')?;
     Ok(())
 }
 
-/// What is on, as a text of ones and zeros.
-fn shown(rt: &impl AllocGlobal, comment: &str) -> Result<String, Fail> {
-    let text = Text::of(rt.alloc(), comment)?;
-    let tags = read_tags(rt.alloc(), &text)?;
-    let mut shown = String::new(rt.alloc());
+/// The comment, and what is read of it, as a row.
+fn row_of(alloc: Global, comment: &str) -> Result<Vec<u8>, AllocError> {
+    let tags = read_tags(alloc, &Text::of(alloc, comment)?)?;
+    let mut shown = Vec::from_slice(alloc, comment.as_bytes())?;
+    shown.push(b'|')?;
+    put_value(&mut shown, &tags.name)?;
+    put_value(&mut shown, &tags.field_name)?;
+    put_value(&mut shown, &tags.foreign_field_name)?;
+    put_value(&mut shown, &tags.deprecated)?;
+    put_value(&mut shown, &tags.description)?;
     for on in tags.behavior {
-        shown.push(if on { '1' } else { '0' })?;
+        shown.push(if on { b'1' } else { b'0' })?;
     }
+    shown.push(b'|')?;
     Ok(shown)
 }
 
 #[test]
-fn behavior(rt: HostRuntime) -> Result<(), Fail> {
-    // select, list, connection, insert, update, delete, order, filter
-    let cases = [
-        ("@behavior", "11111111"),
-        ("@behavior -select", "01111111"),
-        ("@behavior -list -connection", "10011111"),
-        (
-            "@behavior -insert -update -delete -order -filter",
-            "11100000",
-        ),
-        ("@behavior -select +select -list", "10111111"),
-        (
-            "@behavior +order -order\n@name x\n@behavior -filter +order",
-            "11111110",
-        ),
-        (
-            "@behavior -insert\n@behavior +insert\ntext\n@behavior -update",
-            "11111111",
-        ),
-        ("@behavior  -select  -selects select *list -", "01111111"),
-        ("@behaviour -select\n@behavior -SELECT", "11111111"),
-        ("@behavior -delete\r\n@behavior -update\r\n", "11110011"),
-    ];
-    for (comment, want) in cases {
-        let shown = shown(&rt, comment)?;
-        assert_eq!(rt; shown.as_str(), want, "{comment:?}");
+fn comments_ask_for_what_their_tags_say(rt: HostRuntime) -> Result<(), Fail> {
+    for row in ROWS {
+        let (comment, _) = row.split_once('|').ok_or("no row")?;
+        let shown = row_of(rt.alloc(), comment)?;
+        assert_eq!(rt; shown.as_slice(), row.as_bytes());
     }
     Ok(())
 }
