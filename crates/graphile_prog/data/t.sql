@@ -1,2 +1,0 @@
-CREATE TABLE t (id integer PRIMARY KEY, s text);
-INSERT INTO t VALUES (2, 'b'), (1, NULL);

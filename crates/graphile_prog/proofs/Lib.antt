@@ -1,3 +1,0 @@
-pub mod Delivery
-pub mod Held
-pub mod Refusals
