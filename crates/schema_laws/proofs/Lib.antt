@@ -1,0 +1,16 @@
+pub mod Eaches
+pub mod Places
+pub mod InRoles
+pub mod Numbers
+pub mod CaseBytes
+pub mod Leading
+pub mod Orders
+pub mod TypedRoles
+pub mod Distinct
+pub mod Counted
+pub mod Shaped
+pub mod Valid
+pub mod ExampleCatalogs
+pub mod WorkedSchemas
+pub mod Ascii
+pub mod Texts

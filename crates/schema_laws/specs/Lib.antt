@@ -1,0 +1,9 @@
+pub mod Leads
+pub mod Named
+pub mod Ordered
+pub mod Shapes
+pub mod Examples
+pub mod Outline
+pub mod WorkedSchemas
+pub mod WorkedFaults
+pub mod Texts
