@@ -1,0 +1,4 @@
+pub mod Joined
+pub mod Found
+pub mod Kept
+pub mod Whole

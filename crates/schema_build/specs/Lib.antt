@@ -1,0 +1,4 @@
+pub mod Joined
+pub mod Small
+pub mod Places
+pub mod Sdl
