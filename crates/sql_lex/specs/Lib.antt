@@ -1,0 +1,9 @@
+pub mod Faults
+pub mod Bytes
+pub mod Grammar
+pub mod Separators
+pub mod Quoted
+pub mod Lex
+pub mod Offsets
+pub mod Value
+pub mod Laws
