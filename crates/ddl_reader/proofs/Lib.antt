@@ -1,0 +1,4 @@
+pub mod Places
+pub mod Lengths
+pub mod ItemLengths
+pub mod Peeked

@@ -1,0 +1,17 @@
+-- A token that is looked at, and taken where it passes a test of its kind and text.
+use Rattle.std.proofs.Common.{◌≡◌, Bool, true, false, cond, List, [], ◌∷◌, Option, Some, None, Ok, Err, refl, sym, ap, ◌∙◌, subst}
+use Rattle.parse_rules.specs.Tokens.{head, tail}
+use Rattle.parse_rules.specs.Parser.{Outcome, expect, and_then}
+use Rattle.parse_rules.proofs.Outcomes.{done, expect-seen}
+use Rattle.ddl_reader.specs.declared.lexeme.Lexeme.{Lexeme}
+use Rattle.ddl_reader.specs.Reading.{Reader}
+
+some_is : (a b : Lexeme) → Some a ≡ Some b → a ≡ b
+some_is a b e = cc
+
+pub peeked : (test : Lexeme → Bool) (ts new : List Lexeme) (l : Lexeme) → Some l ≡ head ts → new ≡ tail ts → test l ≡ true → expect test ts ≡ Ok (l, new)
+peeked test [] new l e moved hit = absurd cc
+peeked test (t ∷ ts) new l e moved hit =
+    let same = some_is l t e in
+    let passed : test t ≡ true = sym (ap test same) ∙ hit in
+    expect-seen test t ts passed ∙ ap (λ (x : Lexeme). done x ts) (sym same) ∙ ap (λ (w : List Lexeme). done l w) (sym moved)

@@ -1,0 +1,29 @@
+use Rattle.std.proofs.Common.{rules, arith}
+use Rattle.std.proofs.lemmas.Grind.{common_steps}
+use Rattle.parse_rules.specs.Parser.{separated}
+use Rattle.parse_rules.proofs.Turns.{separated_begins, separated_ends, separated_goes_on, while_runs_out}
+use Rattle.ddl_reader.proofs.ItemLengths.{string-keeps}
+use Rattle.ddl_reader.proofs.statements.read_strings.Goals as goal
+
+pub returns-in_err-read_string : goal.returns-in_err-read_string
+unfolding separated
+returns-in_err-read_string c = first_of (search rules, grind (arith, common_steps))
+
+pub loop-turn-init : goal.loop-turn-init
+loop-turn-init c = separated_begins _ _ _ _ _ _ _ _ string-keeps c.in_ok-read_string.ensures c.left_at_most-turn-end.ensures.bound c.new-found.ensures c.in_ok-push.ensures.ok
+
+pub returns-then-not-eat : goal.returns-then-not-eat
+returns-then-not-eat c = separated_ends _ _ _ _ _ _ _ _ c.loop-turn-test.true c.loop-turn.invariant c.eat.ensures.found c.eat.ensures.after c.if-not-eat.true
+
+pub returns-in_err-read_string-2 : goal.returns-in_err-read_string-2
+returns-in_err-read_string-2 c =
+    let e = separated_goes_on _ _ _ _ _ _ _ _ c.loop-turn-test.true c.loop-turn.invariant c.eat.ensures.found c.eat.ensures.after c.if-not-eat.false in
+    first_of (search rules, grind (arith, common_steps))
+
+pub loop-turn-preserved : goal.loop-turn-preserved
+loop-turn-preserved c =
+    let e = separated_goes_on _ _ _ _ _ _ _ _ c.loop-turn-test.true c.loop-turn.invariant c.eat.ensures.found c.eat.ensures.after c.if-not-eat.false in
+    first_of (search rules, grind (arith, common_steps))
+
+pub returns : goal.returns
+returns c = while_runs_out _ _ _ _ _ _ c.loop-turn-test.false c.loop-turn.invariant

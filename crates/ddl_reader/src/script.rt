@@ -1,0 +1,40 @@
+//! What a script gives: a catalog, and the rows that it puts into the catalog's tables.
+
+use pg_base::{Catalog, Pos, Text};
+use sqlite_items::Items;
+
+/// What a script gives.
+#[derive(Drop)]
+pub struct Script {
+    pub catalog: Catalog,
+    /// The rows of all INSERTs, in their order.
+    pub rows: Items<RowText>,
+}
+
+/// A row of an INSERT as it is written, its names looked up in the whole catalog.
+#[derive(Drop)]
+pub struct RowText {
+    /// Where its `(` stands.
+    pub pos: Pos,
+    /// The place of its table.
+    pub table: u32,
+    /// The places of its columns. Without a column list these are the table's first columns, as many as the row has
+    /// values, or all where it has more: then a row with another number of values has too many or too few.
+    pub columns: Items<u32>,
+    /// Its values.
+    pub cells: Items<Literal>,
+}
+
+/// A value as it is written.
+#[derive(Drop)]
+pub enum Literal {
+    /// Digits, with a `-` before them where one stands there.
+    Number(Text),
+    /// A string without its quotes and escapes.
+    Str(Text),
+    True,
+    False,
+    Null,
+    /// The word DEFAULT in place of a value.
+    Default,
+}
