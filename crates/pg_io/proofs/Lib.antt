@@ -1,0 +1,3 @@
+pub mod ByName
+pub mod Delivered
+pub mod Passed

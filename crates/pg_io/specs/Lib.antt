@@ -1,0 +1,5 @@
+pub mod Streams
+pub mod Files
+pub mod Counts
+pub mod MemFiles
+pub mod Plan
