@@ -1,0 +1,4 @@
+pub mod Meaning
+pub mod Form
+pub mod Batches
+pub mod Places
