@@ -1,0 +1,5 @@
+pub mod Seats
+pub mod Kept
+pub mod Runs
+pub mod Parts
+pub mod Unique
