@@ -1,0 +1,4 @@
+pub mod Layers
+pub mod Groups
+pub mod Keys
+pub mod Planned

@@ -1,0 +1,4 @@
+pub mod Store
+pub mod Gives
+pub mod Laid
+pub mod Grouped
