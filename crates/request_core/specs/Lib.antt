@@ -1,0 +1,9 @@
+pub mod Tokens
+pub mod Rules
+pub mod Seen
+pub mod ScriptForm
+pub mod DocumentForm
+pub mod Reading
+pub mod Loading
+pub mod Response
+pub mod Answer
