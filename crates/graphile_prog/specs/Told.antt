@@ -1,0 +1,43 @@
+-- What is told of the outside of a run, and what it counts.
+use Rattle.std.specs.Prelude.{◌≡◌, ℕ, List, Option, ⊤}
+use Rattle.pg_io.specs.Files.{Told, Untold, Absent, Holds, OthersStay}
+use Rattle.pg_io.specs.Streams.{Rose}
+
+-- what is told of the files of a run, and how often calls had failed for each name before it and have now
+pub record Outside : Type 0 where
+  pub file : List ℕ → Told
+  pub before : List ℕ → ℕ
+  pub now : List ℕ → ℕ
+
+-- what a run's sink had taken and how often it had failed before it, and both now
+pub record Output : Type 0 where
+  pub taken : Option (List ℕ)
+  pub taken_now : Option (List ℕ)
+  pub faults : ℕ
+  pub faults_now : ℕ
+
+abbrev pub outside : (List ℕ → Told) → (List ℕ → ℕ) → (List ℕ → ℕ) → Outside
+outside file before now = record { file = file; before = before; now = now }
+
+abbrev pub output : Option (List ℕ) → Option (List ℕ) → ℕ → ℕ → Output
+output taken taken_now faults faults_now =
+    record { taken = taken; taken_now = taken_now; faults = faults; faults_now = faults_now }
+
+-- this holds of the file's bytes, where they are told; a file that is told not to be there has none
+abbrev pub IfHeld : Told → (List ℕ → Type 0) → Type 0
+IfHeld Untold P = ⊤
+IfHeld Absent P = ⊥
+IfHeld (Holds bytes) P = P bytes
+
+-- this holds of the bytes of both files, where they are told
+abbrev pub IfBothHeld : Told → Told → (List ℕ → List ℕ → Type 0) → Type 0
+IfBothHeld one other P = IfHeld one (λ bytes. IfHeld other (P bytes))
+
+-- the count of the name has risen, and no other
+pub record RoseAlone (o : Outside) (name : List ℕ) : Type 0 where
+  pub rose : Rose (o.before name) (o.now name)
+  pub others : OthersStay o.before o.now name
+
+-- no count has changed
+abbrev pub CountsStay : (List ℕ → ℕ) → (List ℕ → ℕ) → Type 0
+CountsStay before now = (name : List ℕ) → now name ≡ before name
