@@ -25,12 +25,12 @@ use Rattle.ddl_reader.specs.declared.statement.Reference.{Reference}
 use Rattle.ddl_reader.specs.declared.statement.Target.{Target}
 use Rattle.ddl_reader.specs.declared.statement.Target.TheVariants as target_is
 use Rattle.ddl_reader.specs.declared.statement.Row.{Row}
-use Rattle.ddl_reader.specs.Lexemes.{is, is_a, is_the, is_word, is_sign}
-use Rattle.ddl_reader.specs.Trees.{named, is_public, is_length, length_type, built_in_type, stands_in, enum_type, is_enum, begins_enum, literal_of, text_type, column_of, rule_of, column_rule_of, reference_of, table_statement, enum_statement, rule_statement, comment_statement, insert_statement, row_of}
+use Rattle.ddl_reader.specs.Lexemes.{is, is_a, is_the, is_word, is_sign, is_built_in}
+use Rattle.ddl_reader.specs.Trees.{named, is_public, is_length, length_type, built_in_type, stands_in, enum_type, is_enum, is_known_type, is_schema_of, literal_of, text_type, column_of, rule_of, column_rule_of, reference_of, table_statement, enum_statement, rule_statement, comment_statement, insert_statement, row_of}
 use Rattle.parse_rules.specs.Parser.{◌>>=◌, pure, expect, either, optional, while, separated, while_onto, skip_while, before}
 use Rattle.parse_rules.specs.Exact.{Shortens, NeverLengthens}
 use Rattle.parse_rules.proofs.Separated.{expect-shortens}
-use Rattle.ddl_reader.specs.Reading.{Reader, choose, comma, opening, dot, a_sign, a_word, action, actions, alter, always, any, built_in, by_default, character, column_element, column_rule, column_rule_after, column_rules, column_target, column_type, columns, comment, comment_text, constraint_target, create, create_skipped, create_table, create_type, default, default_value, element, elements, enum_after, foreign, generation, head, identifier, identifiers, identity, if_not_exists, insert, length_number, literal, name, named_column_rule, named_enum, named_rule, negative, new_name, no_action, no_text, not_exists, not_null, only, optional_columns, optional_length, optional_only, other_row, other_rows, plain_enum, plain_name, primary, primary_key, qualified, qualified_column, qualified_enum, reference, refers, restrict, row, rows, rule, rule_after, rule_element, skipped, some_columns, some_text, string, strings, table_target, target, type_length, type_target, unique, unnamed_column_rule, unnamed_rule, value, values, varchar, varying}
+use Rattle.ddl_reader.specs.Reading.{Reader, choose, comma, opening, dot, a_sign, a_word, action, actions, alter, always, any, by_default, character, column_element, column_rule, column_rule_after, column_rules, column_target, column_type, columns, comment, comment_text, constraint_target, create, create_skipped, create_table, create_type, default, default_value, element, elements, foreign, generation, head, identifier, identifiers, identity, if_not_exists, insert, known_type, length_number, literal, name, named_column_rule, named_rule, negative, new_name, no_action, no_text, not_exists, not_null, only, optional_columns, optional_length, optional_only, other_row, other_rows, plain_enum, plain_name, primary, primary_key, qualified, qualified_column, qualified_enum, reference, refers, restrict, row, rows, rule, rule_after, rule_element, skipped, some_columns, some_text, string, strings, table_target, target, type_after, type_length, type_target, unique, unnamed_column_rule, unnamed_rule, value, values, varchar, varying}
 use Rattle.ddl_reader.proofs.Lengths.{keeps, keeps-pure, bind-shortens, bind-keeps, choose-keeps, choose-shortens, either-keeps, either-shortens, optional-keeps, while-keeps, separated-shortens, skip-keeps, before-keeps, onto-keeps}
 
 pub qualified-shortens : (place : Pos) → Shortens (qualified place)
@@ -143,13 +143,6 @@ character-shortens enums = bind-shortens (a_word word.Character) (λ first. choo
 pub character-keeps : (enums : List EnumDef) → NeverLengthens (character enums)
 character-keeps enums = keeps (character enums) (character-shortens enums)
 
-pub built_in-shortens : Shortens built_in
-unfolding built_in
-built_in-shortens = bind-shortens (expect (is want.BuiltInType)) (λ first. pure (built_in_type first.kind)) (expect-shortens (is want.BuiltInType)) (λ first. keeps-pure (built_in_type first.kind))
-
-pub built_in-keeps : NeverLengthens built_in
-built_in-keeps = keeps built_in built_in-shortens
-
 pub plain_enum-shortens : (enums : List EnumDef) → Shortens (plain_enum enums)
 unfolding plain_enum
 plain_enum-shortens enums = bind-shortens (expect (is_enum enums)) (λ l. pure (enum_type enums l.text)) (expect-shortens (is_enum enums)) (λ l. keeps-pure (enum_type enums l.text))
@@ -164,19 +157,19 @@ qualified_enum-shortens enums = bind-shortens (a_sign 46) (λ t. plain_enum enum
 pub qualified_enum-keeps : (enums : List EnumDef) → NeverLengthens (qualified_enum enums)
 qualified_enum-keeps enums = keeps (qualified_enum enums) (qualified_enum-shortens enums)
 
-pub enum_after-keeps : (enums : List EnumDef) → (text : List ℕ) → NeverLengthens (enum_after enums text)
-enum_after-keeps enums text = choose-keeps (is_public text) (choose (stands_in enums text) (optional dot (enum_type enums text) (qualified_enum enums)) (qualified_enum enums)) (pure (enum_type enums text)) (choose-keeps (stands_in enums text) (optional dot (enum_type enums text) (qualified_enum enums)) (qualified_enum enums) (optional-keeps dot (enum_type enums text) (qualified_enum enums) (qualified_enum-keeps enums)) (qualified_enum-keeps enums)) (keeps-pure (enum_type enums text))
+pub type_after-keeps : (enums : List EnumDef) → (k : LexemeKind) → (text : List ℕ) → NeverLengthens (type_after enums k text)
+type_after-keeps enums k text = choose-keeps (is_built_in k) (pure (built_in_type k)) (choose (is_schema_of enums text) (choose (stands_in enums text) (optional dot (enum_type enums text) (qualified_enum enums)) (qualified_enum enums)) (pure (enum_type enums text))) (keeps-pure (built_in_type k)) (choose-keeps (is_schema_of enums text) (choose (stands_in enums text) (optional dot (enum_type enums text) (qualified_enum enums)) (qualified_enum enums)) (pure (enum_type enums text)) (choose-keeps (stands_in enums text) (optional dot (enum_type enums text) (qualified_enum enums)) (qualified_enum enums) (optional-keeps dot (enum_type enums text) (qualified_enum enums) (qualified_enum-keeps enums)) (qualified_enum-keeps enums)) (keeps-pure (enum_type enums text)))
 
-pub named_enum-shortens : (enums : List EnumDef) → Shortens (named_enum enums)
-unfolding named_enum
-named_enum-shortens enums = bind-shortens (expect (begins_enum enums)) (λ first. enum_after enums first.text) (expect-shortens (begins_enum enums)) (λ first. enum_after-keeps enums first.text)
+pub known_type-shortens : (enums : List EnumDef) → Shortens (known_type enums)
+unfolding known_type
+known_type-shortens enums = bind-shortens (expect (is_known_type enums)) (λ first. type_after enums first.kind first.text) (expect-shortens (is_known_type enums)) (λ first. type_after-keeps enums first.kind first.text)
 
-pub named_enum-keeps : (enums : List EnumDef) → NeverLengthens (named_enum enums)
-named_enum-keeps enums = keeps (named_enum enums) (named_enum-shortens enums)
+pub known_type-keeps : (enums : List EnumDef) → NeverLengthens (known_type enums)
+known_type-keeps enums = keeps (known_type enums) (known_type-shortens enums)
 
 pub column_type-shortens : (enums : List EnumDef) → Shortens (column_type enums)
 unfolding column_type
-column_type-shortens enums = either-shortens (is_a word.Character) (character enums) (either (is_a word.Varchar) varchar (either (is want.BuiltInType) built_in (named_enum enums))) (character-shortens enums) (either-shortens (is_a word.Varchar) varchar (either (is want.BuiltInType) built_in (named_enum enums)) (varchar-shortens) (either-shortens (is want.BuiltInType) built_in (named_enum enums) (built_in-shortens) (named_enum-shortens enums)))
+column_type-shortens enums = either-shortens (is_a word.Character) (character enums) (either (is_a word.Varchar) varchar (known_type enums)) (character-shortens enums) (either-shortens (is_a word.Varchar) varchar (known_type enums) (varchar-shortens) (known_type-shortens enums))
 
 pub column_type-keeps : (enums : List EnumDef) → NeverLengthens (column_type enums)
 column_type-keeps enums = keeps (column_type enums) (column_type-shortens enums)

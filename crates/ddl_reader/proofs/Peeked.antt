@@ -2,7 +2,7 @@
 use Rattle.std.proofs.Common.{◌≡◌, Bool, true, false, cond, List, [], ◌∷◌, Option, Some, None, Ok, Err, refl, sym, ap, ◌∙◌, subst}
 use Rattle.parse_rules.specs.Tokens.{head, tail}
 use Rattle.parse_rules.specs.Parser.{Outcome, expect, and_then}
-use Rattle.parse_rules.proofs.Outcomes.{done, expect-seen}
+use Rattle.parse_rules.proofs.Outcomes.{done, expect-seen, expect-unseen}
 use Rattle.ddl_reader.specs.declared.lexeme.Lexeme.{Lexeme}
 use Rattle.ddl_reader.specs.Reading.{Reader}
 
@@ -15,3 +15,8 @@ peeked test (t ∷ ts) new l e moved hit =
     let same = some_is l t e in
     let passed : test t ≡ true = sym (ap test same) ∙ hit in
     expect-seen test t ts passed ∙ ap (λ (x : Lexeme). done x ts) (sym same) ∙ ap (λ (w : List Lexeme). done l w) (sym moved)
+
+-- it stays where it doesn't pass
+pub unpeeked : (test : Lexeme → Bool) (ts : List Lexeme) (l : Lexeme) → Some l ≡ head ts → test l ≡ false → expect test ts ≡ Err ts
+unpeeked test [] l e miss = absurd cc
+unpeeked test (t ∷ ts) l e miss = expect-unseen test (t ∷ ts) (sym (ap test (some_is l t e)) ∙ miss)

@@ -179,8 +179,8 @@ is_rule_word k = is_word k word.Primary || is_word k word.Unique || is_word k wo
 
 -- a rule, or CHECK, EXCLUDE, LIKE, COLLATE, of which no rule begins
 abbrev pub begins_table_rule : LexemeKind → Bool
-begins_table_rule k =
-    is_word k word.Constraint || is_rule_word k || is_word k word.Check || is_word k word.Exclude || is_word k word.Like
+begins_table_rule k = is_word k word.Constraint || is_rule_word k || is_word k word.Check || is_word k word.Exclude
+    || is_word k word.Like
     || is_word k word.Collate
 
 abbrev pub is_built_in : LexemeKind → Bool
@@ -205,7 +205,6 @@ kind_is want.ColumnRuleWord k = is_column_rule_word k
 kind_is want.RuleWord k = is_rule_word k
 kind_is want.TableRule k = begins_table_rule k
 kind_is want.Change k = is_word k word.Delete || is_word k word.Update
-kind_is want.BuiltInType k = is_built_in k
 
 abbrev pub is : Expected → Lexeme → Bool
 is wanted lexeme = kind_is wanted lexeme.kind

@@ -3,3 +3,5 @@ pub mod Words
 pub mod Lexemes
 pub mod Trees
 pub mod Reading
+pub mod Grammar
+pub mod Statements

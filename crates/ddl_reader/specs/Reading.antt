@@ -26,8 +26,8 @@ use Rattle.ddl_reader.specs.declared.statement.Reference.{Reference}
 use Rattle.ddl_reader.specs.declared.statement.Target.{Target}
 use Rattle.ddl_reader.specs.declared.statement.Target.TheVariants as target_is
 use Rattle.ddl_reader.specs.declared.statement.Row.{Row}
-use Rattle.ddl_reader.specs.Lexemes.{is, is_a, is_the, is_word, is_sign}
-use Rattle.ddl_reader.specs.Trees.{named, is_public, is_length, length_type, built_in_type, stands_in, enum_type, is_enum, begins_enum, literal_of, text_type, column_of, rule_of, column_rule_of, reference_of, table_statement, enum_statement, rule_statement, comment_statement, insert_statement, row_of}
+use Rattle.ddl_reader.specs.Lexemes.{is, is_a, is_the, is_word, is_sign, is_built_in}
+use Rattle.ddl_reader.specs.Trees.{named, is_public, is_length, length_type, built_in_type, stands_in, enum_type, is_enum, is_known_type, is_schema_of, literal_of, text_type, column_of, rule_of, column_rule_of, reference_of, table_statement, enum_statement, rule_statement, comment_statement, insert_statement, row_of}
 
 abbrev pub Reader : Type 0 → Type 0
 Reader A = Parser Lexeme A
@@ -148,11 +148,6 @@ character enums = do
   first ← a_word word.Character
   choose (stands_in enums first.text) (optional (is_a word.Varying) (enum_type enums first.text) varying) varying
 
-unfoldable pub built_in : Reader ColumnType
-built_in = do
-  first ← expect (is want.BuiltInType)
-  pure (built_in_type first.kind)
-
 unfoldable pub plain_enum : List EnumDef → Reader ColumnType
 plain_enum enums = do
   l ← expect (is_enum enums)
@@ -164,21 +159,21 @@ qualified_enum enums = do
   t ← a_sign 46
   plain_enum enums
 
--- after an enum's name, or after the schema
-abbrev pub enum_after : List EnumDef → List ℕ → Reader ColumnType
-enum_after enums text =
-    choose (is_public text) (choose (stands_in enums text) (optional dot (enum_type enums text) (qualified_enum enums))
-    (qualified_enum enums)) (pure (enum_type enums text))
+-- after a type's first word: a built-in type, the schema before an enum, or an enum
+abbrev pub type_after : List EnumDef → LexemeKind → List ℕ → Reader ColumnType
+type_after enums k text = choose (is_built_in k) (pure (built_in_type k)) (choose (is_schema_of enums text)
+    (choose (stands_in enums text) (optional dot (enum_type enums text) (qualified_enum enums)) (qualified_enum enums))
+    (pure (enum_type enums text)))
 
--- [public '.'] enum
-unfoldable pub named_enum : List EnumDef → Reader ColumnType
-named_enum enums = do
-  first ← expect (begins_enum enums)
-  enum_after enums first.text
+-- a built-in type of one word, or [public '.'] enum
+unfoldable pub known_type : List EnumDef → Reader ColumnType
+known_type enums = do
+  first ← expect (is_known_type enums)
+  type_after enums first.kind first.text
 
 unfoldable pub column_type : List EnumDef → Reader ColumnType
-column_type enums = either (is_a word.Character) (character enums) (either (is_a word.Varchar) varchar
-    (either (is want.BuiltInType) built_in (named_enum enums)))
+column_type enums =
+    either (is_a word.Character) (character enums) (either (is_a word.Varchar) varchar (known_type enums))
 
 -- ---- rules
 

@@ -25,7 +25,7 @@ use Rattle.ddl_reader.specs.declared.statement.RuleKind.{RuleKind}
 use Rattle.ddl_reader.specs.declared.statement.Reference.{Reference}
 use Rattle.ddl_reader.specs.declared.statement.Target.{Target}
 use Rattle.ddl_reader.specs.declared.statement.Row.{Row}
-use Rattle.ddl_reader.specs.Lexemes.{is_word, is_number, is_str, is_identifier}
+use Rattle.ddl_reader.specs.Lexemes.{is_word, is_number, is_str, is_identifier, is_built_in}
 
 -- ---- names
 
@@ -114,12 +114,25 @@ is_enum_of enums k text = is_identifier k && stands_in enums text
 abbrev pub is_enum : List EnumDef → Lexeme → Bool
 is_enum enums l = is_enum_of enums l.kind l.text
 
-abbrev pub begins_enum_of : List EnumDef → LexemeKind → List ℕ → Bool
-begins_enum_of enums k text = is_identifier k && (is_public text || stands_in enums text)
+-- some enum stands
+abbrev pub has_some : List EnumDef → Bool
+has_some [] = false
+has_some (e ∷ enums) = true
+
+-- the schema, after which an enum may follow
+abbrev pub is_schema_of : List EnumDef → List ℕ → Bool
+is_schema_of enums text = is_public text && has_some enums
 
 -- an enum, or the schema before it
-abbrev pub begins_enum : List EnumDef → Lexeme → Bool
-begins_enum enums l = begins_enum_of enums l.kind l.text
+abbrev pub begins_enum_of : List EnumDef → LexemeKind → List ℕ → Bool
+begins_enum_of enums k text = is_identifier k && (is_schema_of enums text || stands_in enums text)
+
+-- a type's first word: a built-in type of one word, an enum, or the schema before it
+abbrev pub is_known_type_of : List EnumDef → LexemeKind → List ℕ → Bool
+is_known_type_of enums k text = is_built_in k || begins_enum_of enums k text
+
+abbrev pub is_known_type : List EnumDef → Lexeme → Bool
+is_known_type enums l = is_known_type_of enums l.kind l.text
 
 -- ---- rules and elements
 

@@ -80,8 +80,6 @@ pub enum Expected {
     RuleWord,
     /// DELETE or UPDATE.
     Change,
-    /// A type that is built in.
-    BuiltInType,
 }
 
 pub(crate) fn is_word(kind: LexemeKind, wanted: Word) -> bool
@@ -249,7 +247,7 @@ fn begins_table_rule(kind: LexemeKind) -> bool
         || is_word(kind, Word::Collate)
 }
 
-fn is_built_in(kind: LexemeKind) -> bool
+pub(crate) fn is_built_in(kind: LexemeKind) -> bool
     ensures { result ≡ spec.is_built_in kind }
 {
     is_word(kind, Word::TextType)
@@ -288,7 +286,6 @@ impl Expected {
             Expected::RuleWord => is_rule_word(kind),
             Expected::TableRule => begins_table_rule(kind),
             Expected::Change => is_word(kind, Word::Delete) || is_word(kind, Word::Update),
-            Expected::BuiltInType => is_built_in(kind),
         }
     }
 }

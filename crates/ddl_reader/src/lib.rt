@@ -13,6 +13,7 @@ mod statements;
 mod tables;
 mod tokens;
 mod types;
+mod whole;
 mod word;
 
 pub use script::{Literal, RowText, Script};

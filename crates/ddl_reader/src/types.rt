@@ -7,7 +7,7 @@ ghost use Rattle.parse_rules.specs.Parser.{Reads};
 ghost use Rattle.ddl_reader.specs.Reading as spec;
 ghost use Rattle.ddl_reader.specs.Trees as trees;
 
-use crate::lexeme::{Expected, LexemeKind, is_identifier, is_number, is_word};
+use crate::lexeme::{Expected, LexemeKind, is_built_in, is_identifier, is_number, is_word};
 use crate::names::is_public;
 use crate::statement::ColumnType;
 use crate::tokens::ScriptTokens;
@@ -208,14 +208,6 @@ fn built_in_type(kind: LexemeKind) -> ColumnType
     plain_type(Kind::Bool)
 }
 
-#[tactic(auto, unfolding(crate::specs::Reading::built_in))]
-fn read_built_in(tokens: &mut ScriptTokens<'_>) -> Result<ColumnType, ReadError>
-    ensures { Reads (spec.built_in tokens.old) result tokens.new }
-{
-    let first = tokens.expect(Expected::BuiltInType)?;
-    Ok(built_in_type(first.kind()))
-}
-
 /// An enum's name.
 #[tactic(auto, unfolding(crate::specs::Reading::plain_enum, parse_rules::specs::Parser::expect))]
 fn read_plain_enum(
@@ -243,11 +235,34 @@ fn is_enum(enums: &[EnumDef], kind: LexemeKind, text: &Text) -> bool
     is_identifier(kind) && stands_in(enums, text)
 }
 
-/// Whether it is one, or the schema before it.
+/// Whether the text is the schema, after which an enum may follow.
+fn is_schema_of(enums: &[EnumDef], text: &Text) -> bool
+    ensures { result ≡ trees.is_schema_of enums.now text.now }
+{
+    is_public(text) && has_some(enums)
+}
+
+fn has_some(enums: &[EnumDef]) -> bool
+    ensures { result ≡ trees.has_some enums.now }
+{
+    match enums {
+        [] => false,
+        [_, ..] => true,
+    }
+}
+
+/// Whether a lexeme of this kind and text is an enum's name, or the schema before it.
 fn begins_enum(enums: &[EnumDef], kind: LexemeKind, text: &Text) -> bool
     ensures { result ≡ trees.begins_enum_of enums.now kind text.now }
 {
-    is_identifier(kind) && (is_public(text) || stands_in(enums, text))
+    is_identifier(kind) && (is_schema_of(enums, text) || stands_in(enums, text))
+}
+
+/// Whether it is a type's first word: a built-in type of one word, an enum, or the schema before it.
+fn is_known_type(enums: &[EnumDef], kind: LexemeKind, text: &Text) -> bool
+    ensures { result ≡ trees.is_known_type_of enums.now kind text.now }
+{
+    is_built_in(kind) || begins_enum(enums, kind, text)
 }
 
 #[tactic(auto, unfolding(crate::specs::Reading::qualified_enum))]
@@ -263,17 +278,21 @@ fn read_qualified_enum(
     read_plain_enum(alloc, tokens, enums)
 }
 
-/// What may stand after the schema or an enum's name.
-fn read_enum_after(
+/// What may stand after a type's first word.
+fn read_type_after(
     alloc: Global,
     tokens: &mut ScriptTokens<'_>,
     enums: &[EnumDef],
+    kind: LexemeKind,
     text: &Text,
 ) -> Result<ColumnType, ReadError>
     requires { length enums.now ≤ most_enums }
-    ensures { Reads (spec.enum_after enums.now text.now tokens.old) result tokens.new }
+    ensures { Reads (spec.type_after enums.now kind text.now tokens.old) result tokens.new }
 {
-    if !is_public(text) {
+    if is_built_in(kind) {
+        return Ok(built_in_type(kind));
+    }
+    if !is_schema_of(enums, text) {
         return Ok(enum_type(enums, text));
     }
     if !stands_in(enums, text) {
@@ -285,21 +304,22 @@ fn read_enum_after(
     read_qualified_enum(alloc, tokens, enums)
 }
 
-/// An enum, with the schema or without it.
-#[tactic(auto, unfolding(crate::specs::Reading::named_enum, parse_rules::specs::Parser::expect))]
-fn read_named_enum(
+/// A built-in type of one word, or an enum, with the schema or without it.
+#[tactic(auto, unfolding(crate::specs::Reading::known_type, parse_rules::specs::Parser::expect))]
+fn read_known_type(
     alloc: Global,
     tokens: &mut ScriptTokens<'_>,
     enums: &[EnumDef],
 ) -> Result<ColumnType, ReadError>
     requires { length enums.now ≤ most_enums }
-    ensures { Reads (spec.named_enum enums.now tokens.old) result tokens.new }
+    ensures { Reads (spec.known_type enums.now tokens.old) result tokens.new }
 {
     if let Some(token) = tokens.peek() {
         let text = token.text(alloc)?;
-        if begins_enum(enums, token.kind(), &text) {
+        let kind = token.kind();
+        if is_known_type(enums, kind, &text) {
             tokens.skip();
-            return read_enum_after(alloc, tokens, enums, &text);
+            return read_type_after(alloc, tokens, enums, kind, &text);
         }
     }
     Err(ReadError::Unexpected)
@@ -321,8 +341,5 @@ pub(crate) fn read_column_type(
     if tokens.sees(Expected::Word(Word::Varchar)) {
         return read_varchar(alloc, tokens);
     }
-    if tokens.sees(Expected::BuiltInType) {
-        return read_built_in(tokens);
-    }
-    read_named_enum(alloc, tokens, enums)
+    read_known_type(alloc, tokens, enums)
 }
