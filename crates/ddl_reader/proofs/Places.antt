@@ -5,7 +5,7 @@ use Rattle.sql_lex.specs.declared.token.Token.{Token}
 use Rattle.sql_lex.specs.declared.token.LexFault.{LexFault}
 use Rattle.sql_lex.specs.declared.token.TokenKind.{TokenKind}
 use Rattle.sql_lex.specs.declared.token.TokenKind.TheVariants as token
-use Rattle.sql_lex.specs.Lex.{first_token}
+use Rattle.sql_lex.specs.Lex.{first_token, IsTokenOf}
 use Rattle.sql_lex.specs.Laws.{StandsIn}
 use Rattle.sql_lex.proofs.Known.{stands}
 use Rattle.ddl_reader.specs.declared.lexeme.Lexeme.{Lexeme}
@@ -25,6 +25,12 @@ module _ (text : List ℕ) (at : ℕ) (t : Token) (le : at ≤ length text) (rea
 
   stays : t.«to» ≤ length text
   stays = (stands text at t le read).within
+
+pub token-shortens : (text : List ℕ) (t : Token) → IsTokenOf text t → is_end_token t.kind ≡ false → suc (length text - t.«to») ≤ length text
+token-shortens text t k inner =
+    let go = moves text k.at t k.within k.reads inner in
+    let stay = stays text k.at t k.within k.reads inner in
+    omega (arith, go, stay)
 
 abbrev Same : List ℕ → ℕ → ℕ → Type 0
 Same text n m = (at : ℕ) → at ≤ length text → length text - at < n → length text - at < m → some_lexemes n text at ≡ some_lexemes m text at

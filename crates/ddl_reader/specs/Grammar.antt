@@ -390,3 +390,19 @@ IsOtherRows number found = while_onto_rule comma (IsOtherRow number) found
 -- row {',' row}, after those found
 abbrev pub IsRows : ℕ → List Row → Rule Lexeme (List Row)
 IsRows number found = bind_rule (IsRow number) (λ first. IsOtherRows number (found ++ first ∷ []))
+
+-- ---- statements with their rows
+
+-- an INSERT's rows, after those found
+abbrev pub IsRowsAfter : ℕ → List Row → Statement → Rule Lexeme (List Row)
+IsRowsAfter number found (statement_is.Insert i) = IsRows number found
+IsRowsAfter number found statement_is.Nothing = pure_rule found
+IsRowsAfter number found (statement_is.Enum e) = pure_rule found
+IsRowsAfter number found (statement_is.Table t) = pure_rule found
+IsRowsAfter number found (statement_is.Rule r) = pure_rule found
+IsRowsAfter number found (statement_is.Comment m) = pure_rule found
+
+-- up to `;` or the end, which isn't taken
+abbrev pub IsStatement : List EnumDef → ℕ → List Row → Rule Lexeme (Statement × List Row)
+IsStatement enums number found = bind_rule (IsHead enums) (λ made. bind_rule (IsRowsAfter number found made) (λ after.
+    before_rule (is want.Last) (made, after)))

@@ -215,6 +215,11 @@ is_a w = is (want.Word w)
 abbrev pub is_the : ℕ → Lexeme → Bool
 is_the byte = is (want.Sign byte)
 
+-- no lexeme but the end is left
+abbrev pub is_at_end : List Lexeme → Bool
+is_at_end [] = true
+is_at_end (l ∷ ls) = is_end l.kind
+
 -- ---- how a reader keeps its place
 
 -- a token of the text, or a fault, with its kind

@@ -5,3 +5,9 @@ pub mod Trees
 pub mod Reading
 pub mod Grammar
 pub mod Statements
+pub mod Stops
+pub mod Sentences
+pub mod Parts
+pub mod Script
+pub mod Scripts
+pub mod Destinations

@@ -15,7 +15,7 @@ use pg_base::{Pos, Text};
 use std::alloc::Global;
 
 #[tactic(auto, unfolding(crate::specs::Reading::table_target))]
-fn read_table_target(alloc: Global, tokens: &mut ScriptTokens<'_>) -> Result<Target, ReadError>
+fn read_table_target(alloc: Global, tokens: &mut ScriptTokens<'_, '_>) -> Result<Target, ReadError>
     ensures { Reads (spec.table_target tokens.old) result tokens.new }
 {
     tokens.expect(Expected::Word(Word::Table))?;
@@ -27,7 +27,7 @@ fn read_table_target(alloc: Global, tokens: &mut ScriptTokens<'_>) -> Result<Tar
 #[tactic(auto, unfolding(crate::specs::Reading::qualified_column))]
 fn read_qualified_column(
     alloc: Global,
-    tokens: &mut ScriptTokens<'_>,
+    tokens: &mut ScriptTokens<'_, '_>,
     pos: Pos,
     table: Text,
 ) -> Result<Target, ReadError>
@@ -40,7 +40,7 @@ fn read_qualified_column(
 
 /// A table and its column.
 #[tactic(auto, unfolding(crate::specs::Reading::column_target))]
-fn read_column_target(alloc: Global, tokens: &mut ScriptTokens<'_>) -> Result<Target, ReadError>
+fn read_column_target(alloc: Global, tokens: &mut ScriptTokens<'_, '_>) -> Result<Target, ReadError>
     ensures { Reads (spec.column_target tokens.old) result tokens.new }
 {
     tokens.expect(Expected::Word(Word::Column))?;
@@ -58,7 +58,10 @@ fn read_column_target(alloc: Global, tokens: &mut ScriptTokens<'_>) -> Result<Ta
 }
 
 #[tactic(auto, unfolding(crate::specs::Reading::constraint_target))]
-fn read_constraint_target(alloc: Global, tokens: &mut ScriptTokens<'_>) -> Result<Target, ReadError>
+fn read_constraint_target(
+    alloc: Global,
+    tokens: &mut ScriptTokens<'_, '_>,
+) -> Result<Target, ReadError>
     ensures { Reads (spec.constraint_target tokens.old) result tokens.new }
 {
     tokens.expect(Expected::Word(Word::Constraint))?;
@@ -73,7 +76,7 @@ fn read_constraint_target(alloc: Global, tokens: &mut ScriptTokens<'_>) -> Resul
 }
 
 #[tactic(auto, unfolding(crate::specs::Reading::type_target))]
-fn read_type_target(alloc: Global, tokens: &mut ScriptTokens<'_>) -> Result<Target, ReadError>
+fn read_type_target(alloc: Global, tokens: &mut ScriptTokens<'_, '_>) -> Result<Target, ReadError>
     ensures { Reads (spec.type_target tokens.old) result tokens.new }
 {
     tokens.expect(Expected::Word(Word::Type))?;
@@ -82,7 +85,7 @@ fn read_type_target(alloc: Global, tokens: &mut ScriptTokens<'_>) -> Result<Targ
 }
 
 #[tactic(auto, unfolding(crate::specs::Reading::target))]
-fn read_target(alloc: Global, tokens: &mut ScriptTokens<'_>) -> Result<Target, ReadError>
+fn read_target(alloc: Global, tokens: &mut ScriptTokens<'_, '_>) -> Result<Target, ReadError>
     ensures { Reads (spec.target tokens.old) result tokens.new }
 {
     if tokens.sees(Expected::Word(Word::Table)) {
@@ -98,7 +101,7 @@ fn read_target(alloc: Global, tokens: &mut ScriptTokens<'_>) -> Result<Target, R
 }
 
 #[tactic(auto, unfolding(crate::specs::Reading::no_text))]
-fn read_no_text(tokens: &mut ScriptTokens<'_>) -> Result<Option<Text>, ReadError>
+fn read_no_text(tokens: &mut ScriptTokens<'_, '_>) -> Result<Option<Text>, ReadError>
     ensures { Reads (spec.no_text tokens.old) result tokens.new }
 {
     tokens.expect(Expected::Word(Word::Null))?;
@@ -106,7 +109,10 @@ fn read_no_text(tokens: &mut ScriptTokens<'_>) -> Result<Option<Text>, ReadError
 }
 
 #[tactic(auto, unfolding(crate::specs::Reading::some_text))]
-fn read_some_text(alloc: Global, tokens: &mut ScriptTokens<'_>) -> Result<Option<Text>, ReadError>
+fn read_some_text(
+    alloc: Global,
+    tokens: &mut ScriptTokens<'_, '_>,
+) -> Result<Option<Text>, ReadError>
     ensures { Reads (spec.some_text tokens.old) result tokens.new }
 {
     let text = read_string(alloc, tokens)?;
@@ -115,7 +121,7 @@ fn read_some_text(alloc: Global, tokens: &mut ScriptTokens<'_>) -> Result<Option
 
 fn read_comment_text(
     alloc: Global,
-    tokens: &mut ScriptTokens<'_>,
+    tokens: &mut ScriptTokens<'_, '_>,
 ) -> Result<Option<Text>, ReadError>
     ensures { Reads (spec.comment_text tokens.old) result tokens.new }
 {
@@ -129,7 +135,7 @@ fn read_comment_text(
 #[tactic(auto, unfolding(crate::specs::Reading::comment))]
 pub(crate) fn read_comment(
     alloc: Global,
-    tokens: &mut ScriptTokens<'_>,
+    tokens: &mut ScriptTokens<'_, '_>,
 ) -> Result<Statement, ReadError>
     ensures { Reads (spec.comment tokens.old) result tokens.new }
 {

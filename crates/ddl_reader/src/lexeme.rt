@@ -173,7 +173,7 @@ pub(crate) fn is_number(kind: LexemeKind) -> bool
     }
 }
 
-fn is_end(kind: LexemeKind) -> bool
+pub(crate) fn is_end(kind: LexemeKind) -> bool
     ensures { result ≡ spec.is_end kind }
 {
     match kind {

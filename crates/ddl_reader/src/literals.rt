@@ -31,7 +31,7 @@ fn negated(alloc: Global, digits: &Text) -> Result<Text, Memory>
 }
 
 #[tactic(auto, unfolding(crate::specs::Reading::negative))]
-fn read_negative(alloc: Global, tokens: &mut ScriptTokens<'_>) -> Result<Literal, ReadError>
+fn read_negative(alloc: Global, tokens: &mut ScriptTokens<'_, '_>) -> Result<Literal, ReadError>
     ensures { Reads (spec.negative tokens.old) result tokens.new }
 {
     let digits = tokens.lexeme(alloc, Expected::Number)?;
@@ -62,7 +62,7 @@ fn literal_of(first: Lexeme) -> Literal
 #[tactic(auto, unfolding(crate::specs::Reading::literal))]
 pub(crate) fn read_literal(
     alloc: Global,
-    tokens: &mut ScriptTokens<'_>,
+    tokens: &mut ScriptTokens<'_, '_>,
 ) -> Result<Literal, ReadError>
     ensures { Reads (spec.literal tokens.old) result tokens.new }
 {
@@ -74,7 +74,7 @@ pub(crate) fn read_literal(
 }
 
 #[tactic(auto, unfolding(crate::specs::Reading::default_value))]
-fn read_default_value(tokens: &mut ScriptTokens<'_>) -> Result<Literal, ReadError>
+fn read_default_value(tokens: &mut ScriptTokens<'_, '_>) -> Result<Literal, ReadError>
     ensures { Reads (spec.default_value tokens.old) result tokens.new }
 {
     tokens.expect(Expected::Word(Word::Default))?;
@@ -83,7 +83,10 @@ fn read_default_value(tokens: &mut ScriptTokens<'_>) -> Result<Literal, ReadErro
 
 /// A value of a row.
 #[tactic(auto, unfolding(crate::specs::Reading::value))]
-pub(crate) fn read_value(alloc: Global, tokens: &mut ScriptTokens<'_>) -> Result<Literal, ReadError>
+pub(crate) fn read_value(
+    alloc: Global,
+    tokens: &mut ScriptTokens<'_, '_>,
+) -> Result<Literal, ReadError>
     ensures { Reads (spec.value tokens.old) result tokens.new }
 {
     if tokens.sees(Expected::Word(Word::Default)) {

@@ -22,7 +22,11 @@ pub(crate) fn is_public(name: &Text) -> bool
 
 /// `.` and an identifier, after the schema.
 #[tactic(auto, unfolding(crate::specs::Reading::qualified))]
-fn read_qualified(alloc: Global, tokens: &mut ScriptTokens<'_>, pos: Pos) -> Result<Name, ReadError>
+fn read_qualified(
+    alloc: Global,
+    tokens: &mut ScriptTokens<'_, '_>,
+    pos: Pos,
+) -> Result<Name, ReadError>
     ensures { Reads (spec.qualified pos tokens.old) result tokens.new }
 {
     tokens.expect(Expected::Sign(b'.'))?;
@@ -35,7 +39,7 @@ fn read_qualified(alloc: Global, tokens: &mut ScriptTokens<'_>, pos: Pos) -> Res
 
 /// A name, with the schema or without it.
 #[tactic(auto, unfolding(crate::specs::Reading::name))]
-pub(crate) fn read_name(alloc: Global, tokens: &mut ScriptTokens<'_>) -> Result<Name, ReadError>
+pub(crate) fn read_name(alloc: Global, tokens: &mut ScriptTokens<'_, '_>) -> Result<Name, ReadError>
     ensures { Reads (spec.name tokens.old) result tokens.new }
 {
     let first = tokens.lexeme(alloc, Expected::Identifier)?;
@@ -52,7 +56,7 @@ pub(crate) fn read_name(alloc: Global, tokens: &mut ScriptTokens<'_>) -> Result<
 #[tactic(auto, unfolding(crate::specs::Reading::identifier))]
 pub(crate) fn read_identifier(
     alloc: Global,
-    tokens: &mut ScriptTokens<'_>,
+    tokens: &mut ScriptTokens<'_, '_>,
 ) -> Result<Text, ReadError>
     ensures { Reads (spec.identifier tokens.old) result tokens.new }
 {
@@ -60,7 +64,10 @@ pub(crate) fn read_identifier(
 }
 
 /// Identifiers with commas between.
-fn read_identifiers(alloc: Global, tokens: &mut ScriptTokens<'_>) -> Result<Items<Text>, ReadError>
+fn read_identifiers(
+    alloc: Global,
+    tokens: &mut ScriptTokens<'_, '_>,
+) -> Result<Items<Text>, ReadError>
     ensures { Reads (spec.identifiers tokens.old) result tokens.new }
 {
     let mut found = Items::new(alloc);
@@ -78,7 +85,7 @@ fn read_identifiers(alloc: Global, tokens: &mut ScriptTokens<'_>) -> Result<Item
 #[tactic(auto, unfolding(crate::specs::Reading::columns))]
 pub(crate) fn read_columns(
     alloc: Global,
-    tokens: &mut ScriptTokens<'_>,
+    tokens: &mut ScriptTokens<'_, '_>,
 ) -> Result<Items<Text>, ReadError>
     ensures { Reads (spec.columns tokens.old) result tokens.new }
 {
@@ -92,7 +99,7 @@ pub(crate) fn read_columns(
 #[tactic(auto, unfolding(crate::specs::Reading::some_columns))]
 pub(crate) fn read_optional_columns(
     alloc: Global,
-    tokens: &mut ScriptTokens<'_>,
+    tokens: &mut ScriptTokens<'_, '_>,
 ) -> Result<Option<Items<Text>>, ReadError>
     ensures { Reads (spec.optional_columns tokens.old) result tokens.new }
 {

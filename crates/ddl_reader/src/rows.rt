@@ -14,7 +14,10 @@ use sqlite_items::Items;
 use std::alloc::Global;
 
 /// Values with commas between.
-fn read_values(alloc: Global, tokens: &mut ScriptTokens<'_>) -> Result<Items<Literal>, ReadError>
+fn read_values(
+    alloc: Global,
+    tokens: &mut ScriptTokens<'_, '_>,
+) -> Result<Items<Literal>, ReadError>
     ensures { Reads (spec.values tokens.old) result tokens.new }
 {
     let mut found = Items::new(alloc);
@@ -30,7 +33,11 @@ fn read_values(alloc: Global, tokens: &mut ScriptTokens<'_>) -> Result<Items<Lit
 
 /// A row of the INSERT of this number.
 #[tactic(auto, unfolding(crate::specs::Reading::row))]
-fn read_row(alloc: Global, tokens: &mut ScriptTokens<'_>, insert: usize) -> Result<Row, ReadError>
+fn read_row(
+    alloc: Global,
+    tokens: &mut ScriptTokens<'_, '_>,
+    insert: usize,
+) -> Result<Row, ReadError>
     ensures { Reads (spec.row insert tokens.old) result tokens.new }
 {
     let first = tokens.expect(Expected::Sign(b'('))?;
@@ -46,7 +53,7 @@ fn read_row(alloc: Global, tokens: &mut ScriptTokens<'_>, insert: usize) -> Resu
 #[tactic(auto, unfolding(crate::specs::Reading::other_row))]
 fn read_other_row(
     alloc: Global,
-    tokens: &mut ScriptTokens<'_>,
+    tokens: &mut ScriptTokens<'_, '_>,
     insert: usize,
 ) -> Result<Row, ReadError>
     ensures { Reads (spec.other_row insert tokens.old) result tokens.new }
@@ -58,7 +65,7 @@ fn read_other_row(
 /// Puts rows after those found, as long as a comma comes.
 fn read_other_rows(
     alloc: Global,
-    tokens: &mut ScriptTokens<'_>,
+    tokens: &mut ScriptTokens<'_, '_>,
     insert: usize,
     found: &mut Items<Row>,
 ) -> Result<(), ReadError>
@@ -77,7 +84,7 @@ fn read_other_rows(
 #[tactic(auto, unfolding(crate::specs::Reading::rows))]
 pub(crate) fn read_rows(
     alloc: Global,
-    tokens: &mut ScriptTokens<'_>,
+    tokens: &mut ScriptTokens<'_, '_>,
     insert: usize,
     found: &mut Items<Row>,
 ) -> Result<(), ReadError>

@@ -15,7 +15,7 @@ use sqlite_items::Items;
 use std::alloc::Global;
 
 #[tactic(auto, unfolding(crate::specs::Reading::no_action))]
-fn read_no_action(tokens: &mut ScriptTokens<'_>) -> Result<(), ReadError>
+fn read_no_action(tokens: &mut ScriptTokens<'_, '_>) -> Result<(), ReadError>
     ensures { Reads (spec.no_action tokens.old) result tokens.new }
 {
     tokens.expect(Expected::Word(Word::No))?;
@@ -24,7 +24,7 @@ fn read_no_action(tokens: &mut ScriptTokens<'_>) -> Result<(), ReadError>
 }
 
 #[tactic(auto, unfolding(crate::specs::Reading::restrict))]
-fn read_restrict(tokens: &mut ScriptTokens<'_>) -> Result<(), ReadError>
+fn read_restrict(tokens: &mut ScriptTokens<'_, '_>) -> Result<(), ReadError>
     ensures { Reads (spec.restrict tokens.old) result tokens.new }
 {
     tokens.expect(Expected::Word(Word::Restrict))?;
@@ -33,7 +33,7 @@ fn read_restrict(tokens: &mut ScriptTokens<'_>) -> Result<(), ReadError>
 
 /// ON DELETE or ON UPDATE with the one action that there is.
 #[tactic(auto, unfolding(crate::specs::Reading::action))]
-fn read_action(tokens: &mut ScriptTokens<'_>) -> Result<(), ReadError>
+fn read_action(tokens: &mut ScriptTokens<'_, '_>) -> Result<(), ReadError>
     ensures { Reads (spec.action tokens.old) result tokens.new }
 {
     tokens.expect(Expected::Word(Word::On))?;
@@ -44,7 +44,7 @@ fn read_action(tokens: &mut ScriptTokens<'_>) -> Result<(), ReadError>
     read_restrict(tokens)
 }
 
-fn read_actions(tokens: &mut ScriptTokens<'_>) -> Result<(), ReadError>
+fn read_actions(tokens: &mut ScriptTokens<'_, '_>) -> Result<(), ReadError>
     ensures { Reads (spec.actions tokens.old) result tokens.new }
 {
     for _turn in 0..tokens.left_at_most() {
@@ -58,7 +58,7 @@ fn read_actions(tokens: &mut ScriptTokens<'_>) -> Result<(), ReadError>
 
 /// What stands after REFERENCES.
 #[tactic(auto, unfolding(crate::specs::Reading::reference))]
-fn read_reference(alloc: Global, tokens: &mut ScriptTokens<'_>) -> Result<Reference, ReadError>
+fn read_reference(alloc: Global, tokens: &mut ScriptTokens<'_, '_>) -> Result<Reference, ReadError>
     ensures { Reads (spec.reference tokens.old) result tokens.new }
 {
     let table = read_name(alloc, tokens)?;
@@ -71,7 +71,7 @@ fn read_reference(alloc: Global, tokens: &mut ScriptTokens<'_>) -> Result<Refere
 }
 
 #[tactic(auto, unfolding(crate::specs::Reading::always))]
-fn read_always(tokens: &mut ScriptTokens<'_>) -> Result<(), ReadError>
+fn read_always(tokens: &mut ScriptTokens<'_, '_>) -> Result<(), ReadError>
     ensures { Reads (spec.always tokens.old) result tokens.new }
 {
     tokens.expect(Expected::Word(Word::Always))?;
@@ -79,7 +79,7 @@ fn read_always(tokens: &mut ScriptTokens<'_>) -> Result<(), ReadError>
 }
 
 #[tactic(auto, unfolding(crate::specs::Reading::by_default))]
-fn read_by_default(tokens: &mut ScriptTokens<'_>) -> Result<(), ReadError>
+fn read_by_default(tokens: &mut ScriptTokens<'_, '_>) -> Result<(), ReadError>
     ensures { Reads (spec.by_default tokens.old) result tokens.new }
 {
     tokens.expect(Expected::Word(Word::By))?;
@@ -87,7 +87,7 @@ fn read_by_default(tokens: &mut ScriptTokens<'_>) -> Result<(), ReadError>
     Ok(())
 }
 
-fn read_generation(tokens: &mut ScriptTokens<'_>) -> Result<(), ReadError>
+fn read_generation(tokens: &mut ScriptTokens<'_, '_>) -> Result<(), ReadError>
     ensures { Reads (spec.generation tokens.old) result tokens.new }
 {
     if tokens.sees(Expected::Word(Word::Always)) {
@@ -98,7 +98,7 @@ fn read_generation(tokens: &mut ScriptTokens<'_>) -> Result<(), ReadError>
 
 /// What stands after GENERATED.
 #[tactic(auto, unfolding(crate::specs::Reading::identity))]
-fn read_identity(tokens: &mut ScriptTokens<'_>) -> Result<ColumnRuleKind, ReadError>
+fn read_identity(tokens: &mut ScriptTokens<'_, '_>) -> Result<ColumnRuleKind, ReadError>
     ensures { Reads (spec.identity tokens.old) result tokens.new }
 {
     read_generation(tokens)?;
@@ -108,7 +108,7 @@ fn read_identity(tokens: &mut ScriptTokens<'_>) -> Result<ColumnRuleKind, ReadEr
 }
 
 #[tactic(auto, unfolding(crate::specs::Reading::not_null))]
-fn read_not_null(tokens: &mut ScriptTokens<'_>) -> Result<ColumnRuleKind, ReadError>
+fn read_not_null(tokens: &mut ScriptTokens<'_, '_>) -> Result<ColumnRuleKind, ReadError>
     ensures { Reads (spec.not_null tokens.old) result tokens.new }
 {
     tokens.expect(Expected::Word(Word::Null))?;
@@ -116,7 +116,7 @@ fn read_not_null(tokens: &mut ScriptTokens<'_>) -> Result<ColumnRuleKind, ReadEr
 }
 
 #[tactic(auto, unfolding(crate::specs::Reading::primary))]
-fn read_primary(tokens: &mut ScriptTokens<'_>) -> Result<ColumnRuleKind, ReadError>
+fn read_primary(tokens: &mut ScriptTokens<'_, '_>) -> Result<ColumnRuleKind, ReadError>
     ensures { Reads (spec.primary tokens.old) result tokens.new }
 {
     tokens.expect(Expected::Word(Word::Key))?;
@@ -124,7 +124,10 @@ fn read_primary(tokens: &mut ScriptTokens<'_>) -> Result<ColumnRuleKind, ReadErr
 }
 
 #[tactic(auto, unfolding(crate::specs::Reading::default))]
-fn read_default(alloc: Global, tokens: &mut ScriptTokens<'_>) -> Result<ColumnRuleKind, ReadError>
+fn read_default(
+    alloc: Global,
+    tokens: &mut ScriptTokens<'_, '_>,
+) -> Result<ColumnRuleKind, ReadError>
     ensures { Reads (spec.default tokens.old) result tokens.new }
 {
     let value = read_literal(alloc, tokens)?;
@@ -132,7 +135,10 @@ fn read_default(alloc: Global, tokens: &mut ScriptTokens<'_>) -> Result<ColumnRu
 }
 
 #[tactic(auto, unfolding(crate::specs::Reading::refers))]
-fn read_refers(alloc: Global, tokens: &mut ScriptTokens<'_>) -> Result<ColumnRuleKind, ReadError>
+fn read_refers(
+    alloc: Global,
+    tokens: &mut ScriptTokens<'_, '_>,
+) -> Result<ColumnRuleKind, ReadError>
     ensures { Reads (spec.refers tokens.old) result tokens.new }
 {
     let target = read_reference(alloc, tokens)?;
@@ -142,7 +148,7 @@ fn read_refers(alloc: Global, tokens: &mut ScriptTokens<'_>) -> Result<ColumnRul
 /// What stands after a column rule's first word.
 fn read_column_rule_after(
     alloc: Global,
-    tokens: &mut ScriptTokens<'_>,
+    tokens: &mut ScriptTokens<'_, '_>,
     first: LexemeKind,
 ) -> Result<ColumnRuleKind, ReadError>
     ensures { Reads (spec.column_rule_after first tokens.old) result tokens.new }
@@ -172,7 +178,7 @@ fn read_column_rule_after(
 #[tactic(auto, unfolding(crate::specs::Reading::unnamed_column_rule))]
 fn read_unnamed_column_rule(
     alloc: Global,
-    tokens: &mut ScriptTokens<'_>,
+    tokens: &mut ScriptTokens<'_, '_>,
     begins: Option<Pos>,
     name: Option<Text>,
 ) -> Result<ColumnRule, ReadError>
@@ -190,7 +196,7 @@ fn read_unnamed_column_rule(
 #[tactic(auto, unfolding(crate::specs::Reading::named_column_rule))]
 fn read_named_column_rule(
     alloc: Global,
-    tokens: &mut ScriptTokens<'_>,
+    tokens: &mut ScriptTokens<'_, '_>,
 ) -> Result<ColumnRule, ReadError>
     ensures { Reads (spec.named_column_rule tokens.old) result tokens.new }
 {
@@ -200,7 +206,10 @@ fn read_named_column_rule(
 }
 
 #[tactic(auto, unfolding(crate::specs::Reading::column_rule))]
-fn read_column_rule(alloc: Global, tokens: &mut ScriptTokens<'_>) -> Result<ColumnRule, ReadError>
+fn read_column_rule(
+    alloc: Global,
+    tokens: &mut ScriptTokens<'_, '_>,
+) -> Result<ColumnRule, ReadError>
     ensures { Reads (spec.column_rule tokens.old) result tokens.new }
 {
     if tokens.sees(Expected::Word(Word::Constraint)) {
@@ -212,7 +221,7 @@ fn read_column_rule(alloc: Global, tokens: &mut ScriptTokens<'_>) -> Result<Colu
 /// The rules of a column.
 pub(crate) fn read_column_rules(
     alloc: Global,
-    tokens: &mut ScriptTokens<'_>,
+    tokens: &mut ScriptTokens<'_, '_>,
 ) -> Result<Items<ColumnRule>, ReadError>
     ensures { Reads (spec.column_rules tokens.old) result tokens.new }
 {
@@ -227,7 +236,7 @@ pub(crate) fn read_column_rules(
 }
 
 #[tactic(auto, unfolding(crate::specs::Reading::primary_key))]
-fn read_primary_key(alloc: Global, tokens: &mut ScriptTokens<'_>) -> Result<RuleKind, ReadError>
+fn read_primary_key(alloc: Global, tokens: &mut ScriptTokens<'_, '_>) -> Result<RuleKind, ReadError>
     ensures { Reads (spec.primary_key tokens.old) result tokens.new }
 {
     tokens.expect(Expected::Word(Word::Key))?;
@@ -236,7 +245,7 @@ fn read_primary_key(alloc: Global, tokens: &mut ScriptTokens<'_>) -> Result<Rule
 }
 
 #[tactic(auto, unfolding(crate::specs::Reading::unique))]
-fn read_unique(alloc: Global, tokens: &mut ScriptTokens<'_>) -> Result<RuleKind, ReadError>
+fn read_unique(alloc: Global, tokens: &mut ScriptTokens<'_, '_>) -> Result<RuleKind, ReadError>
     ensures { Reads (spec.unique tokens.old) result tokens.new }
 {
     let columns = read_columns(alloc, tokens)?;
@@ -244,7 +253,7 @@ fn read_unique(alloc: Global, tokens: &mut ScriptTokens<'_>) -> Result<RuleKind,
 }
 
 #[tactic(auto, unfolding(crate::specs::Reading::foreign))]
-fn read_foreign(alloc: Global, tokens: &mut ScriptTokens<'_>) -> Result<RuleKind, ReadError>
+fn read_foreign(alloc: Global, tokens: &mut ScriptTokens<'_, '_>) -> Result<RuleKind, ReadError>
     ensures { Reads (spec.foreign tokens.old) result tokens.new }
 {
     tokens.expect(Expected::Word(Word::Key))?;
@@ -257,7 +266,7 @@ fn read_foreign(alloc: Global, tokens: &mut ScriptTokens<'_>) -> Result<RuleKind
 /// What stands after a table rule's first word.
 fn read_rule_after(
     alloc: Global,
-    tokens: &mut ScriptTokens<'_>,
+    tokens: &mut ScriptTokens<'_, '_>,
     first: LexemeKind,
 ) -> Result<RuleKind, ReadError>
     ensures { Reads (spec.rule_after first tokens.old) result tokens.new }
@@ -275,7 +284,7 @@ fn read_rule_after(
 #[tactic(auto, unfolding(crate::specs::Reading::unnamed_rule))]
 fn read_unnamed_rule(
     alloc: Global,
-    tokens: &mut ScriptTokens<'_>,
+    tokens: &mut ScriptTokens<'_, '_>,
     begins: Option<Pos>,
     name: Option<Text>,
 ) -> Result<Rule, ReadError>
@@ -291,7 +300,7 @@ fn read_unnamed_rule(
 }
 
 #[tactic(auto, unfolding(crate::specs::Reading::named_rule))]
-fn read_named_rule(alloc: Global, tokens: &mut ScriptTokens<'_>) -> Result<Rule, ReadError>
+fn read_named_rule(alloc: Global, tokens: &mut ScriptTokens<'_, '_>) -> Result<Rule, ReadError>
     ensures { Reads (spec.named_rule tokens.old) result tokens.new }
 {
     let first = tokens.expect(Expected::Word(Word::Constraint))?;
@@ -301,7 +310,7 @@ fn read_named_rule(alloc: Global, tokens: &mut ScriptTokens<'_>) -> Result<Rule,
 
 /// A rule of a table.
 #[tactic(auto, unfolding(crate::specs::Reading::rule))]
-pub(crate) fn read_rule(alloc: Global, tokens: &mut ScriptTokens<'_>) -> Result<Rule, ReadError>
+pub(crate) fn read_rule(alloc: Global, tokens: &mut ScriptTokens<'_, '_>) -> Result<Rule, ReadError>
     ensures { Reads (spec.rule tokens.old) result tokens.new }
 {
     if tokens.sees(Expected::Word(Word::Constraint)) {

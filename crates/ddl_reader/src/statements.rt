@@ -19,14 +19,17 @@ use sqlite_items::Items;
 use std::alloc::Global;
 
 #[tactic(auto, unfolding(crate::specs::Reading::string))]
-pub(crate) fn read_string(alloc: Global, tokens: &mut ScriptTokens<'_>) -> Result<Text, ReadError>
+pub(crate) fn read_string(
+    alloc: Global,
+    tokens: &mut ScriptTokens<'_, '_>,
+) -> Result<Text, ReadError>
     ensures { Reads (spec.string tokens.old) result tokens.new }
 {
     Ok(tokens.lexeme(alloc, Expected::Str)?.text)
 }
 
 /// Strings with commas between.
-fn read_strings(alloc: Global, tokens: &mut ScriptTokens<'_>) -> Result<Items<Text>, ReadError>
+fn read_strings(alloc: Global, tokens: &mut ScriptTokens<'_, '_>) -> Result<Items<Text>, ReadError>
     ensures { Reads (spec.strings tokens.old) result tokens.new }
 {
     let mut found = Items::new(alloc);
@@ -42,7 +45,10 @@ fn read_strings(alloc: Global, tokens: &mut ScriptTokens<'_>) -> Result<Items<Te
 
 /// A CREATE TYPE after CREATE.
 #[tactic(auto, unfolding(crate::specs::Reading::create_type))]
-fn read_create_type(alloc: Global, tokens: &mut ScriptTokens<'_>) -> Result<Statement, ReadError>
+fn read_create_type(
+    alloc: Global,
+    tokens: &mut ScriptTokens<'_, '_>,
+) -> Result<Statement, ReadError>
     ensures { Reads (spec.create_type tokens.old) result tokens.new }
 {
     tokens.expect(Expected::Word(Word::Type))?;
@@ -57,7 +63,7 @@ fn read_create_type(alloc: Global, tokens: &mut ScriptTokens<'_>) -> Result<Stat
 
 /// CREATE INDEX and CREATE EXTENSION, of which nothing is kept.
 #[tactic(auto, unfolding(crate::specs::Reading::create_skipped))]
-fn read_create_skipped(tokens: &mut ScriptTokens<'_>) -> Result<Statement, ReadError>
+fn read_create_skipped(tokens: &mut ScriptTokens<'_, '_>) -> Result<Statement, ReadError>
     ensures { Reads (spec.create_skipped tokens.old) result tokens.new }
 {
     tokens.expect(Expected::SkippedObject)?;
@@ -68,7 +74,7 @@ fn read_create_skipped(tokens: &mut ScriptTokens<'_>) -> Result<Statement, ReadE
 #[tactic(auto, unfolding(crate::specs::Reading::create))]
 fn read_create(
     alloc: Global,
-    tokens: &mut ScriptTokens<'_>,
+    tokens: &mut ScriptTokens<'_, '_>,
     enums: &[EnumDef],
 ) -> Result<Statement, ReadError>
     requires { length enums.now ≤ most_enums }
@@ -86,7 +92,7 @@ fn read_create(
 
 /// BEGIN, COMMIT, START and SET, of which nothing is kept.
 #[tactic(auto, unfolding(crate::specs::Reading::skipped))]
-fn read_skipped(tokens: &mut ScriptTokens<'_>) -> Result<Statement, ReadError>
+fn read_skipped(tokens: &mut ScriptTokens<'_, '_>) -> Result<Statement, ReadError>
     ensures { Reads (spec.skipped tokens.old) result tokens.new }
 {
     tokens.expect(Expected::SkippedStart)?;
@@ -95,14 +101,14 @@ fn read_skipped(tokens: &mut ScriptTokens<'_>) -> Result<Statement, ReadError>
 }
 
 #[tactic(auto, unfolding(crate::specs::Reading::only))]
-fn read_only(tokens: &mut ScriptTokens<'_>) -> Result<(), ReadError>
+fn read_only(tokens: &mut ScriptTokens<'_, '_>) -> Result<(), ReadError>
     ensures { Reads (spec.only tokens.old) result tokens.new }
 {
     tokens.expect(Expected::Word(Word::Only))?;
     Ok(())
 }
 
-fn read_optional_only(tokens: &mut ScriptTokens<'_>) -> Result<(), ReadError>
+fn read_optional_only(tokens: &mut ScriptTokens<'_, '_>) -> Result<(), ReadError>
     ensures { Reads (spec.optional_only tokens.old) result tokens.new }
 {
     if !tokens.sees(Expected::Word(Word::Only)) {
@@ -113,7 +119,7 @@ fn read_optional_only(tokens: &mut ScriptTokens<'_>) -> Result<(), ReadError>
 
 /// ALTER TABLE with the rule that it adds.
 #[tactic(auto, unfolding(crate::specs::Reading::alter))]
-fn read_alter(alloc: Global, tokens: &mut ScriptTokens<'_>) -> Result<Statement, ReadError>
+fn read_alter(alloc: Global, tokens: &mut ScriptTokens<'_, '_>) -> Result<Statement, ReadError>
     ensures { Reads (spec.alter tokens.old) result tokens.new }
 {
     tokens.expect(Expected::Word(Word::Alter))?;
@@ -127,7 +133,7 @@ fn read_alter(alloc: Global, tokens: &mut ScriptTokens<'_>) -> Result<Statement,
 
 /// INSERT up to its rows.
 #[tactic(auto, unfolding(crate::specs::Reading::insert))]
-fn read_insert(alloc: Global, tokens: &mut ScriptTokens<'_>) -> Result<Statement, ReadError>
+fn read_insert(alloc: Global, tokens: &mut ScriptTokens<'_, '_>) -> Result<Statement, ReadError>
     ensures { Reads (spec.insert tokens.old) result tokens.new }
 {
     tokens.expect(Expected::Word(Word::Insert))?;
@@ -142,7 +148,7 @@ fn read_insert(alloc: Global, tokens: &mut ScriptTokens<'_>) -> Result<Statement
 #[tactic(auto, unfolding(crate::specs::Reading::head))]
 pub(crate) fn read_head(
     alloc: Global,
-    tokens: &mut ScriptTokens<'_>,
+    tokens: &mut ScriptTokens<'_, '_>,
     enums: &[EnumDef],
 ) -> Result<Statement, ReadError>
     requires { length enums.now ≤ most_enums }

@@ -18,7 +18,7 @@ use sqlite_items::Items;
 use std::alloc::Global;
 
 #[tactic(auto, unfolding(crate::specs::Reading::rule_element))]
-fn read_rule_element(alloc: Global, tokens: &mut ScriptTokens<'_>) -> Result<Element, ReadError>
+fn read_rule_element(alloc: Global, tokens: &mut ScriptTokens<'_, '_>) -> Result<Element, ReadError>
     ensures { Reads (spec.rule_element tokens.old) result tokens.new }
 {
     let rule = read_rule(alloc, tokens)?;
@@ -28,7 +28,7 @@ fn read_rule_element(alloc: Global, tokens: &mut ScriptTokens<'_>) -> Result<Ele
 #[tactic(auto, unfolding(crate::specs::Reading::column_element))]
 fn read_column_element(
     alloc: Global,
-    tokens: &mut ScriptTokens<'_>,
+    tokens: &mut ScriptTokens<'_, '_>,
     enums: &[EnumDef],
 ) -> Result<Element, ReadError>
     requires { length enums.now ≤ most_enums }
@@ -50,7 +50,7 @@ fn read_column_element(
 #[tactic(auto, unfolding(crate::specs::Reading::element))]
 fn read_element(
     alloc: Global,
-    tokens: &mut ScriptTokens<'_>,
+    tokens: &mut ScriptTokens<'_, '_>,
     enums: &[EnumDef],
 ) -> Result<Element, ReadError>
     requires { length enums.now ≤ most_enums }
@@ -65,7 +65,7 @@ fn read_element(
 /// Elements with commas between.
 fn read_elements(
     alloc: Global,
-    tokens: &mut ScriptTokens<'_>,
+    tokens: &mut ScriptTokens<'_, '_>,
     enums: &[EnumDef],
 ) -> Result<Items<Element>, ReadError>
     requires { length enums.now ≤ most_enums }
@@ -83,7 +83,10 @@ fn read_elements(
 }
 
 #[tactic(auto, unfolding(crate::specs::Reading::not_exists))]
-fn read_not_exists(alloc: Global, tokens: &mut ScriptTokens<'_>) -> Result<(bool, Name), ReadError>
+fn read_not_exists(
+    alloc: Global,
+    tokens: &mut ScriptTokens<'_, '_>,
+) -> Result<(bool, Name), ReadError>
     ensures { Reads (spec.not_exists tokens.old) result tokens.new }
 {
     tokens.expect(Expected::Word(Word::Not))?;
@@ -96,7 +99,7 @@ fn read_not_exists(alloc: Global, tokens: &mut ScriptTokens<'_>) -> Result<(bool
 #[tactic(auto, unfolding(crate::specs::Reading::if_not_exists))]
 fn read_if_not_exists(
     alloc: Global,
-    tokens: &mut ScriptTokens<'_>,
+    tokens: &mut ScriptTokens<'_, '_>,
 ) -> Result<(bool, Name), ReadError>
     ensures { Reads (spec.if_not_exists tokens.old) result tokens.new }
 {
@@ -112,7 +115,10 @@ fn read_if_not_exists(
 }
 
 #[tactic(auto, unfolding(crate::specs::Reading::plain_name))]
-fn read_plain_name(alloc: Global, tokens: &mut ScriptTokens<'_>) -> Result<(bool, Name), ReadError>
+fn read_plain_name(
+    alloc: Global,
+    tokens: &mut ScriptTokens<'_, '_>,
+) -> Result<(bool, Name), ReadError>
     ensures { Reads (spec.plain_name tokens.old) result tokens.new }
 {
     let table = read_name(alloc, tokens)?;
@@ -120,7 +126,10 @@ fn read_plain_name(alloc: Global, tokens: &mut ScriptTokens<'_>) -> Result<(bool
 }
 
 /// A new table's name, and whether a taken one is to have no effect.
-fn read_new_name(alloc: Global, tokens: &mut ScriptTokens<'_>) -> Result<(bool, Name), ReadError>
+fn read_new_name(
+    alloc: Global,
+    tokens: &mut ScriptTokens<'_, '_>,
+) -> Result<(bool, Name), ReadError>
     ensures { Reads (spec.new_name tokens.old) result tokens.new }
 {
     if tokens.sees(Expected::Word(Word::If)) {
@@ -133,7 +142,7 @@ fn read_new_name(alloc: Global, tokens: &mut ScriptTokens<'_>) -> Result<(bool, 
 #[tactic(auto, unfolding(crate::specs::Reading::create_table))]
 pub(crate) fn read_create_table(
     alloc: Global,
-    tokens: &mut ScriptTokens<'_>,
+    tokens: &mut ScriptTokens<'_, '_>,
     enums: &[EnumDef],
 ) -> Result<Statement, ReadError>
     requires { length enums.now ≤ most_enums }

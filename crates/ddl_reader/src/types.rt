@@ -80,7 +80,10 @@ const TOO_GREAT: u32 = MOST_TEXT_BYTES as u32 + 1;
 
 /// The number between the parentheses.
 #[tactic(auto, unfolding(crate::specs::Reading::length_number, parse_rules::specs::Parser::expect))]
-fn read_length_number(alloc: Global, tokens: &mut ScriptTokens<'_>) -> Result<ColumnType, ReadError>
+fn read_length_number(
+    alloc: Global,
+    tokens: &mut ScriptTokens<'_, '_>,
+) -> Result<ColumnType, ReadError>
     ensures { Reads (spec.length_number tokens.old) result tokens.new }
 {
     if let Some(token) = tokens.peek() {
@@ -94,7 +97,10 @@ fn read_length_number(alloc: Global, tokens: &mut ScriptTokens<'_>) -> Result<Co
 }
 
 #[tactic(auto, unfolding(crate::specs::Reading::type_length))]
-fn read_type_length(alloc: Global, tokens: &mut ScriptTokens<'_>) -> Result<ColumnType, ReadError>
+fn read_type_length(
+    alloc: Global,
+    tokens: &mut ScriptTokens<'_, '_>,
+) -> Result<ColumnType, ReadError>
     ensures { Reads (spec.type_length tokens.old) result tokens.new }
 {
     tokens.expect(Expected::Sign(b'('))?;
@@ -106,7 +112,7 @@ fn read_type_length(alloc: Global, tokens: &mut ScriptTokens<'_>) -> Result<Colu
 /// A length, if one stands there.
 fn read_optional_length(
     alloc: Global,
-    tokens: &mut ScriptTokens<'_>,
+    tokens: &mut ScriptTokens<'_, '_>,
 ) -> Result<ColumnType, ReadError>
     ensures { Reads (spec.optional_length tokens.old) result tokens.new }
 {
@@ -117,7 +123,7 @@ fn read_optional_length(
 }
 
 #[tactic(auto, unfolding(crate::specs::Reading::varchar))]
-fn read_varchar(alloc: Global, tokens: &mut ScriptTokens<'_>) -> Result<ColumnType, ReadError>
+fn read_varchar(alloc: Global, tokens: &mut ScriptTokens<'_, '_>) -> Result<ColumnType, ReadError>
     ensures { Reads (spec.varchar tokens.old) result tokens.new }
 {
     tokens.expect(Expected::Word(Word::Varchar))?;
@@ -125,7 +131,7 @@ fn read_varchar(alloc: Global, tokens: &mut ScriptTokens<'_>) -> Result<ColumnTy
 }
 
 #[tactic(auto, unfolding(crate::specs::Reading::varying))]
-fn read_varying(alloc: Global, tokens: &mut ScriptTokens<'_>) -> Result<ColumnType, ReadError>
+fn read_varying(alloc: Global, tokens: &mut ScriptTokens<'_, '_>) -> Result<ColumnType, ReadError>
     ensures { Reads (spec.varying tokens.old) result tokens.new }
 {
     tokens.expect(Expected::Word(Word::Varying))?;
@@ -170,7 +176,7 @@ fn enum_type(enums: &[EnumDef], name: &Text) -> ColumnType
 #[tactic(auto, unfolding(crate::specs::Reading::character))]
 fn read_character(
     alloc: Global,
-    tokens: &mut ScriptTokens<'_>,
+    tokens: &mut ScriptTokens<'_, '_>,
     enums: &[EnumDef],
 ) -> Result<ColumnType, ReadError>
     requires { length enums.now ≤ most_enums }
@@ -212,7 +218,7 @@ fn built_in_type(kind: LexemeKind) -> ColumnType
 #[tactic(auto, unfolding(crate::specs::Reading::plain_enum, parse_rules::specs::Parser::expect))]
 fn read_plain_enum(
     alloc: Global,
-    tokens: &mut ScriptTokens<'_>,
+    tokens: &mut ScriptTokens<'_, '_>,
     enums: &[EnumDef],
 ) -> Result<ColumnType, ReadError>
     requires { length enums.now ≤ most_enums }
@@ -268,7 +274,7 @@ fn is_known_type(enums: &[EnumDef], kind: LexemeKind, text: &Text) -> bool
 #[tactic(auto, unfolding(crate::specs::Reading::qualified_enum))]
 fn read_qualified_enum(
     alloc: Global,
-    tokens: &mut ScriptTokens<'_>,
+    tokens: &mut ScriptTokens<'_, '_>,
     enums: &[EnumDef],
 ) -> Result<ColumnType, ReadError>
     requires { length enums.now ≤ most_enums }
@@ -281,7 +287,7 @@ fn read_qualified_enum(
 /// What may stand after a type's first word.
 fn read_type_after(
     alloc: Global,
-    tokens: &mut ScriptTokens<'_>,
+    tokens: &mut ScriptTokens<'_, '_>,
     enums: &[EnumDef],
     kind: LexemeKind,
     text: &Text,
@@ -308,7 +314,7 @@ fn read_type_after(
 #[tactic(auto, unfolding(crate::specs::Reading::known_type, parse_rules::specs::Parser::expect))]
 fn read_known_type(
     alloc: Global,
-    tokens: &mut ScriptTokens<'_>,
+    tokens: &mut ScriptTokens<'_, '_>,
     enums: &[EnumDef],
 ) -> Result<ColumnType, ReadError>
     requires { length enums.now ≤ most_enums }
@@ -329,7 +335,7 @@ fn read_known_type(
 #[tactic(auto, unfolding(crate::specs::Reading::column_type))]
 pub(crate) fn read_column_type(
     alloc: Global,
-    tokens: &mut ScriptTokens<'_>,
+    tokens: &mut ScriptTokens<'_, '_>,
     enums: &[EnumDef],
 ) -> Result<ColumnType, ReadError>
     requires { length enums.now ≤ most_enums }

@@ -18,7 +18,7 @@ use std::alloc::Global;
 /// Puts the rows of an INSERT after those found.
 fn read_rows_after(
     alloc: Global,
-    tokens: &mut ScriptTokens<'_>,
+    tokens: &mut ScriptTokens<'_, '_>,
     statement: &Statement,
     insert: usize,
     found: &mut Items<Row>,
@@ -40,7 +40,7 @@ fn read_rows_after(
 #[tactic(auto, unfolding(crate::specs::Statements::statement_with))]
 pub(crate) fn read_statement(
     alloc: Global,
-    tokens: &mut ScriptTokens<'_>,
+    tokens: &mut ScriptTokens<'_, '_>,
     enums: &[EnumDef],
     insert: usize,
     found: &mut Items<Row>,

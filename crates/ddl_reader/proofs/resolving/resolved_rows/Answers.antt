@@ -1,0 +1,15 @@
+use Rattle.std.proofs.Common.{List, sym, subst}
+use Rattle.pg_base.specs.Lists.{EachPair}
+use Rattle.ddl_reader.specs.declared.resolving.Destination.{Destination}
+use Rattle.ddl_reader.specs.declared.script.RowText.{RowText}
+use Rattle.ddl_reader.specs.Destinations.{IsRowInto}
+use Rattle.std.proofs.Common.{reverse}
+use Rattle.ddl_reader.proofs.ResolvedRows.{rows_resolved}
+use Rattle.ddl_reader.proofs.resolving.resolved_rows.Goals as goal
+
+pub returns-clause-rows : goal.returns-clause-rows
+returns-clause-rows c =
+    let found = c.in_ok-found.found in
+    let here = subst (λ (l : List Destination). EachPair (IsRowInto l) c.args.rows (reverse c.in_ok-backwards.backwards)) c.as_slice.ensures c.in_ok-backwards.ensures in
+    rows_resolved c.args.catalog.now c.args.inserts.now found c.in_ok-found.ensures.found c.args.rows c.in_ok-made.made
+    (subst (λ (l : List RowText). EachPair (IsRowInto found) c.args.rows l) (sym c.in_ok-made.ensures) here)
