@@ -1,0 +1,15 @@
+pub mod Places
+pub mod NoFault
+pub mod Written
+pub mod CellFits
+pub mod Found
+pub mod Growth
+pub mod Valid
+pub mod Grown
+pub mod Walk
+pub mod CellTurns
+pub mod NullTurns
+pub mod Steps
+pub mod SameCells
+pub mod ScanTurns
+pub mod Seats

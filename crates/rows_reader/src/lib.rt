@@ -1,0 +1,17 @@
+//! The rows of a script, put into the tables of its catalog.
+#![tactic(auto)]
+
+mod cells;
+mod fault;
+mod faults;
+mod index;
+pub mod laws;
+mod lists;
+mod loading;
+mod numbers;
+mod references;
+mod texts;
+mod values;
+
+pub use fault::{LoadError, RowsFault};
+pub use loading::load;
