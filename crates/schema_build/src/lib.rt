@@ -2,11 +2,15 @@
 #![tactic(auto)]
 
 mod behaving;
-mod build;
+mod built;
 mod columns;
 mod connections;
+mod fault_line;
+mod faults;
+mod graphql_names;
 mod inputs;
 mod marks;
+mod meetings;
 mod naming;
 mod places;
 mod refs;
@@ -17,5 +21,6 @@ mod sdl;
 mod tables;
 mod types;
 
-pub use build::schema_of;
+pub use built::{build, schema_of};
+pub use fault_line::put_fault_line;
 pub use sdl::print_schema;

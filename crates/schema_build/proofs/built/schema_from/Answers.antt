@@ -1,6 +1,6 @@
 use Rattle.std.proofs.Common.{◌∙◌}
 use Rattle.schema_build.proofs.Whole.{valid_parts, same_parts}
-use Rattle.schema_build.proofs.build.schema_from.Goals as goal
+use Rattle.schema_build.proofs.built.schema_from.Goals as goal
 
 pub of-requires : goal.of-requires
 of-requires c =
