@@ -1,5 +1,5 @@
 -- What a binary search finds among grouped rows.
-use Rattle.std.proofs.Common.{◌≡◌, ℕ, zero, suc, ◌-◌, ◌<◌, ◌≤◌, List, [], ◌∷◌, length, get_or, take, drop, Bor, Bool, true, false, refl, sym, ap, ◌∙◌, subst, arith}
+use Rattle.std.proofs.Common.{◌≡◌, ℕ, zero, suc, ◌-◌, ◌<◌, ◌≤◌, List, [], ◌∷◌, length, map, get_or, take, drop, Bor, Bool, true, false, refl, sym, ap, ◌∙◌, subst, arith}
 use Rattle.std.specs.List.{prefix_len}
 use Rattle.std.specs.declared.cmp.Ordering.{Ordering}
 use Rattle.std.specs.declared.cmp.Ordering.TheVariants.{Less, Equal, Greater}
@@ -11,15 +11,15 @@ use Rattle.shared_list.specs.Lists.{Splits}
 use Rattle.shared_list.proofs.Front.{passes_before, fails_after}
 use Rattle.rel_model.specs.declared.tables.Row.{Row}
 use Rattle.rel_model.specs.declared.window.By.{By}
-use Rattle.rel_model.specs.Ordered.{cells_by, sorted_by}
+use Rattle.std.specs.Ordering.{nat_cmp, ordering_then}
+use Rattle.std.proofs.lemmas.List.{length-map}
+use Rattle.rel_model.specs.Ordered.{cells_by, ascending}
+use Rattle.stmt_run.specs.Marks.{key_mark, row_mark}
+use Rattle.stmt_run.proofs.Marks.{keys_tell}
 use Rattle.rel_model.proofs.Orders.{cells_order_total}
-use Rattle.rel_model.proofs.Sorting.{sorted_by-map}
 use Rattle.rel_model.proofs.Groups.{climbing, range_of}
-use Rattle.stmt_run.specs.Grouped.{stands_at, comes_before, grouped, is_under, group_at}
-use Rattle.stmt_run.proofs.Layers.{now_all, map_take, map_drop, length_now}
-
-pub borrowed_grouped : (order : List By) (old new : List (Bor Row)) → new ≡ sorted_by (λ (a b : Bor Row). comes_before order a.now b.now) old → now_all new ≡ grouped order (now_all old)
-borrowed_grouped order old new e = ap now_all e ∙ sym (sorted_by-map (λ (r : Bor Row). r.now) (comes_before order) old)
+use Rattle.stmt_run.specs.Grouped.{stands_at, grouped, is_under, group_at}
+use Rattle.stmt_run.proofs.Layers.{now_all, length_now}
 
 get_now : (rows : List (Bor Row)) (m : ℕ) (x : Bor Row) → m < length rows → x ≡ get_or rows m x → get_or (now_all rows) m x.now ≡ x.now
 get_now rows m x lt is = at rows m x lt ∙ ap (λ (r : Bor Row). r.now) (sym is)
@@ -88,11 +88,22 @@ module _ (rows : List (Bor Row)) (order : List By) (key : List Cell) where
     pub seek_within : (from to : ℕ) → from ≡ prefix_len (λ r. is_under false (stands_at order key r)) (now_all rows) → to ≡ prefix_len (λ r. is_under true (stands_at order key r)) (now_all rows) → to ≤ length rows
     seek_within from to a b = (range from to a b).1
 
-    pub group_is : (from to : ℕ) → from ≡ prefix_len (λ r. is_under false (stands_at order key r)) (now_all rows) → to ≡ prefix_len (λ r. is_under true (stands_at order key r)) (now_all rows) → now_all (take (to - from) (drop from rows)) ≡ group_at order key (now_all rows)
-    group_is from to a b =
-        map_take (λ (r : Bor Row). r.now) (to - from) (drop from rows)
-        ∙ ap (take (to - from)) (map_drop (λ (r : Bor Row). r.now) from rows)
-        ∙ (range from to a b).2
+    pub group_is : (from to : ℕ) → from ≡ prefix_len (λ r. is_under false (stands_at order key r)) (now_all rows) → to ≡ prefix_len (λ r. is_under true (stands_at order key r)) (now_all rows) → take (to - from) (drop from (now_all rows)) ≡ group_at order key (now_all rows)
+    group_is from to a b = (range from to a b).2
 
 pub under_at : (rows : List (Bor Row)) (order : List By) (key : List Cell) (b : Bool) (xs : List Row) → now_all rows ≡ grouped order xs → (m : ℕ) (x : Bor Row) → m < length rows → x ≡ get_or rows m x → is_under b (stands_at order key x.now) ≡ true → m < prefix_len (λ r. is_under b (stands_at order key r)) (now_all rows)
 under_at rows order key b xs sorted m x lt is h = under_by rows order key xs sorted b m x lt is h
+
+get_marked : (f : Row → ℕ) (rows : List (Bor Row)) (m d : ℕ) (x : Bor Row) → m < length rows → x ≡ get_or rows m x → get_or (map f (now_all rows)) m d ≡ f x.now
+get_marked f [] m d x lt is = absurd (omega arith)
+get_marked f (r ∷ rows) zero d x lt is = ap (λ (b : Bor Row). f b.now) (sym is)
+get_marked f (r ∷ rows) (suc m) d x lt is = get_marked f rows m d x (omega arith) is
+
+pub told_at : (columns : List ℕ) (order : List By) (rows : List (Bor Row)) (marks : List ℕ) (key : List Cell) → order ≡ ascending columns → marks ≡ map (row_mark columns) (now_all rows) → (m d : ℕ) (x : Bor Row) → m < length rows → x ≡ get_or rows m x → ordering_then (nat_cmp (get_or marks m d) (key_mark columns key)) (stands_at order key x.now) ≡ stands_at order key x.now
+told_at columns order rows marks key is marked m d x lt there =
+    let e : get_or marks m d ≡ row_mark columns x.now = ap (λ l. get_or l m d) marked ∙ get_marked (row_mark columns) rows m d x lt there in
+    subst (λ o. ordering_then (nat_cmp (get_or marks m d) (key_mark columns key)) (stands_at o key x.now) ≡ stands_at o key x.now) (sym is)
+    (ap (λ n. ordering_then (nat_cmp n (key_mark columns key)) (stands_at (ascending columns) key x.now)) e ∙ keys_tell columns (cells_by (ascending columns) x.now.cells) key)
+
+pub as_many : (columns : List ℕ) (rows : List (Bor Row)) (marks : List ℕ) → marks ≡ map (row_mark columns) (now_all rows) → length marks ≡ length rows
+as_many columns rows marks marked = ap length marked ∙ length-map (now_all rows) (row_mark columns) ∙ length_now rows

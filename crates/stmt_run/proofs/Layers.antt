@@ -1,5 +1,5 @@
 -- A batch from its parts: what was laid out, and what each child found.
-use Rattle.std.proofs.Common.{◌≡◌, ℕ, zero, suc, ◌+◌, ◌-◌, ◌<◌, List, [], ◌∷◌, ◌++◌, map, length, take, drop, set, get_or, sum, Bor, true, false, append_assoc, add-one, refl, sym, ap, ◌∙◌, arith}
+use Rattle.std.proofs.Common.{◌≡◌, ℕ, zero, suc, ◌+◌, ◌-◌, ◌<◌, ◌≤◌, List, [], ◌∷◌, ◌++◌, map, length, take, drop, set, get_or, sum, Bor, true, false, append_assoc, add-one, refl, sym, ap, ◌∙◌, arith}
 use Rattle.std.proofs.lemmas.List.{map-append}
 use Rattle.rel_model.specs.declared.tables.Row.{Row}
 use Rattle.rel_model.specs.declared.tables.Tables.{Tables}
@@ -15,7 +15,7 @@ use Rattle.stmt_tree.specs.declared.found.Found.{Found}
 use Rattle.stmt_tree.specs.Meaning.{part_of, meaning_of, trees_in_all}
 use Rattle.stmt_tree.specs.Batches.{part_in, all_parts, lists_for, column, firsts, trees_from, founds_from}
 use Rattle.stmt_tree.proofs.Batched.{batched, batched_count}
-use Rattle.stmt_run.specs.declared.laying.Shape.{Shape}
+use Rattle.stmt_run.specs.declared.laid.Shape.{Shape}
 use Rattle.stmt_run.specs.Laid.{shape_of, found_of, founds_of}
 
 abbrev pub now_all : List (Bor Row) → List Row
@@ -137,6 +137,9 @@ module _ (columns now : List (List Found)) (i : ℕ) (x after : List Found) (lef
 
 -- ---- all of it
 
+pub parts_within : (tables : Tables) (stmt : Stmt) (keys : List Key) → length (all_parts stmt (lists_for tables stmt keys)) ≤ trees_in_all (meaning_of tables stmt keys)
+parts_within tables stmt keys = let e = batched_count tables stmt keys in omega (arith, e)
+
 founds_same : (stmt : Stmt) (lists : List (List Row)) (trees : List RowTree) → founds_of (map (shape_of stmt) lists) trees ≡ founds_from stmt lists trees
 founds_same stmt [] trees = refl
 founds_same stmt (list ∷ lists) trees =
@@ -147,12 +150,11 @@ map_both tables rows [] = refl
 map_both tables rows (k ∷ kids) = ap (λ l. trees_in_all (column tables rows k) ∷ l) (map_both tables rows kids)
 
 module _ (tables : Tables) (stmt : Stmt) (keys : List Key) (rows : List (Bor Row)) (laid : now_all rows ≡ all_parts stmt (lists_for tables stmt keys)) where
-  pub batch_count : trees_in_all (meaning_of tables stmt keys) ≡ length rows + sum (map trees_in_all (map (column tables (now_all rows)) (out-Stmt stmt).children))
+  pub batch_count : trees_in_all (meaning_of tables stmt keys) ≡ length (all_parts stmt (lists_for tables stmt keys)) + sum (map trees_in_all (map (column tables (now_all rows)) (out-Stmt stmt).children))
   batch_count =
       batched_count tables stmt keys
-      ∙ ap (λ l. length l + sum (map (λ k. trees_in_all (column tables l k)) (out-Stmt stmt).children)) (sym laid)
-      ∙ ap (λ n. n + sum (map (λ k. trees_in_all (column tables (now_all rows) k)) (out-Stmt stmt).children)) (length_now rows)
-      ∙ ap (λ l. length rows + sum l) (map_both tables (now_all rows) (out-Stmt stmt).children)
+      ∙ ap (λ l. length (all_parts stmt (lists_for tables stmt keys)) + sum (map (λ k. trees_in_all (column tables l k)) (out-Stmt stmt).children)) (sym laid)
+      ∙ ap (λ l. length (all_parts stmt (lists_for tables stmt keys)) + sum l) (map_both tables (now_all rows) (out-Stmt stmt).children)
 
   pub batch_is : (shapes : List Shape) (columns : List (List Found)) (found : List Found) → shapes ≡ map (shape_of stmt) (lists_for tables stmt keys) → columns ≡ map (column tables (now_all rows)) (out-Stmt stmt).children → found ≡ founds_of shapes (trees_from (now_all rows) columns) → found ≡ meaning_of tables stmt keys
   batch_is shapes columns found a b c =

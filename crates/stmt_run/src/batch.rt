@@ -3,7 +3,7 @@
 ghost use Rattle.std.specs.Prelude.{◌≡◌, ◌++◌, ◌+◌, IfOk, map, sum, drop, length};
 ghost use Rattle.stmt_tree.specs.Meaning.{meaning_of, trees_in_all};
 ghost use Rattle.stmt_tree.specs.Batches.{column, key_below};
-ghost use Rattle.stmt_run.specs.Gives.{Gives, IsTaken};
+ghost use Rattle.stmt_run.specs.Gives.{Gives};
 
 use crate::laying::lay_out;
 use crate::queue::Queue;
@@ -28,17 +28,6 @@ fn keys_below(alloc: Global, child: &Child, rows: &[&Row]) -> Result<Vec<Key>, M
     Ok(keys)
 }
 
-/// Takes room for rows, where there is as much.
-fn take_room(room: &mut u64, count: usize) -> Result<(), RunFault>
-    ensures { IsTaken count room.old room.new result }
-{
-    if *room < count as u64 {
-        return Err(RunFault::TooMany);
-    }
-    *room -= count as u64;
-    Ok(())
-}
-
 /// What the statement finds for each key, taken from the room.
 #[cycle(batch)]
 pub(crate) fn find_batch(
@@ -52,8 +41,7 @@ pub(crate) fn find_batch(
         (meaning_of set.now.tables stmt.now keys.now) }
 {
     let mut rows = Vec::new(alloc);
-    let shapes = lay_out(alloc, set, stmt, keys, &mut rows)?;
-    take_room(room, rows.len())?;
+    let shapes = lay_out(alloc, set, stmt, keys, room, &mut rows)?;
     let columns = find_columns(alloc, set, stmt.children.as_slice(), rows.as_slice(), room)?;
     let found = put_together(
         alloc,

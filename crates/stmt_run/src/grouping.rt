@@ -6,10 +6,13 @@ ghost use Rattle.pg_base.specs.declared.cell.Cell.TheVariants as cell;
 ghost use Rattle.rel_model.specs.declared.tables.Row.{Row as RowParts};
 ghost use Rattle.rel_model.specs.Ordered as ordered;
 ghost use Rattle.rel_model.specs.Picked as picked;
+ghost use Rattle.std.specs.Ordering.{nat_cmp, ordering_then};
 ghost use Rattle.stmt_run.specs.Grouped as spec;
+ghost use Rattle.stmt_run.specs.Marks as marked;
 
+use crate::placing::key_mark;
 use pg_base::{Cell, Memory};
-use rel_model::{By, Row, compare_both, compare_row_values, is_null};
+use rel_model::{By, Row, compare_row_values, is_null};
 use std::alloc::Global;
 
 /// The ascending order by these columns.
@@ -26,26 +29,19 @@ pub(crate) fn ascending(alloc: Global, columns: &[u32]) -> Result<Vec<By>, Memor
     Ok(order)
 }
 
-fn sort_borrowed(rows: &mut Vec<&Row>, order: &[By]) -> Result<(), Memory>
-    ensures { OnOk result (rows.new.items ≡
-        ordered.sorted_by (λ a b. spec.comes_before order.now a.now b.now) rows.old.items) }
-{
-    rows.sort_by(|a, b| compare_both(order, a.cells.as_slice(), b.cells.as_slice()))
-}
-
-/// Puts rows in the order of their cells in a key.
-pub(crate) fn group_rows(rows: &mut Vec<&Row>, order: &[By]) -> Result<(), Memory>
-    ensures { OnOk result (map (λ r. r.now) rows.new.items ≡
-        spec.grouped order.now (map (λ r. r.now) rows.old.items)) }
-{
-    sort_borrowed(rows, order)?;
-    Ok(())
-}
-
+/// Whether a row, of which the mark is given, stands before a key or, where the key counts too, not after it.
 #[tactic(auto, unfolding(crate::specs::Grouped::is_under))]
-fn is_under(order: &[By], key: &[Cell], with_key: bool, row: &Row) -> bool
+fn is_under(order: &[By], row: &Row, row_mark: u64, key: &[Cell], mark: u64, with_key: bool) -> bool
+    requires { ordering_then (nat_cmp row_mark mark) (spec.stands_at order.now key.now row.now)
+        ≡ spec.stands_at order.now key.now row.now }
     ensures { result ≡ spec.is_under with_key (spec.stands_at order.now key.now row.now) }
 {
+    if row_mark < mark {
+        return true;
+    }
+    if mark < row_mark {
+        return false;
+    }
     let found = compare_row_values(order, row.cells.as_slice(), key);
     if with_key {
         return !found.is_gt();
@@ -54,16 +50,26 @@ fn is_under(order: &[By], key: &[Cell], with_key: bool, row: &Row) -> bool
 }
 
 /// The number of rows before a key or, where the key counts too, not after it.
-fn seek(rows: &[&Row], order: &[By], key: &[Cell], with_key: bool) -> usize
-    requires { (xs : List RowParts) × (map (λ r. r.now) rows.now ≡ spec.grouped order.now xs) }
+fn seek(
+    columns: &[u32],
+    order: &[By],
+    rows: &[&Row],
+    marks: &[u64],
+    key: &[Cell],
+    with_key: bool,
+) -> usize
+    requires order { order.now ≡ ordered.ascending columns.now }
+    requires rows { (xs : List RowParts) × (map (λ r. r.now) rows.now ≡ spec.grouped order.now xs) }
+    requires marks { marks.now ≡ map (marked.row_mark columns.now) (map (λ r. r.now) rows.now) }
     ensures { result ≡ prefix_len (λ r. spec.is_under with_key (spec.stands_at order.now key.now r))
         (map (λ r. r.now) rows.now) }
 {
+    let sought = key_mark(columns, key);
     let mut low = 0;
     let mut high = rows.len();
     'low: while low < high {
         let middle = low + (high - low) / 2;
-        if is_under(order, key, with_key, rows[middle]) {
+        if is_under(order, rows[middle], marks[middle], key, sought, with_key) {
             low = middle + 1;
             continue;
         }
@@ -73,26 +79,24 @@ fn seek(rows: &[&Row], order: &[By], key: &[Cell], with_key: bool) -> usize
 }
 
 /// From which place on, and up to which, rows stand at a key.
-fn bounds(rows: &[&Row], order: &[By], key: &[Cell]) -> (usize, usize)
-    requires { (xs : List RowParts) × (map (λ r. r.now) rows.now ≡ spec.grouped order.now xs) }
+pub(crate) fn bounds(
+    columns: &[u32],
+    order: &[By],
+    rows: &[&Row],
+    marks: &[u64],
+    key: &[Cell],
+) -> (usize, usize)
+    requires order { order.now ≡ ordered.ascending columns.now }
+    requires rows { (xs : List RowParts) × (map (λ r. r.now) rows.now ≡ spec.grouped order.now xs) }
+    requires marks { marks.now ≡ map (marked.row_mark columns.now) (map (λ r. r.now) rows.now) }
     ensures order { result.0 ≤ result.1 }
     ensures end { result.1 ≤ length rows.now }
-    ensures group { map (λ r. r.now) (take (result.1 - result.0) (drop result.0 rows.now)) ≡
+    ensures group { take (result.1 - result.0) (drop result.0 (map (λ r. r.now) rows.now)) ≡
         spec.group_at order.now key.now (map (λ r. r.now) rows.now) }
 {
-    let from = seek(rows, order, key, false);
-    let to = seek(rows, order, key, true);
+    let from = seek(columns, order, rows, marks, key, false);
+    let to = seek(columns, order, rows, marks, key, true);
     (from, to)
-}
-
-/// The rows that stand at a key.
-pub(crate) fn find_group<'a, 'b>(rows: &'b [&'a Row], order: &[By], key: &[Cell]) -> &'b [&'a Row]
-    requires { (xs : List RowParts) × (map (λ r. r.now) rows.now ≡ spec.grouped order.now xs) }
-    ensures { map (λ r. r.now) result.now ≡
-        spec.group_at order.now key.now (map (λ r. r.now) rows.now) }
-{
-    let (from, to) = bounds(rows, order, key);
-    &rows[from..to]
 }
 
 /// Whether a key has a null.

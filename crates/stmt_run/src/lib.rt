@@ -4,9 +4,11 @@
 mod batch;
 mod faulty;
 mod grouping;
+mod laid;
 mod laying;
 mod memory;
 mod picking;
+mod placing;
 mod queue;
 mod snapshot;
 mod trees;

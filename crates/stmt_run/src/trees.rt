@@ -4,7 +4,7 @@ ghost use Rattle.std.specs.Prelude.{◌≡◌, ◌+◌, ◌++◌, IfOk, OnOk, ma
 ghost use Rattle.stmt_tree.specs.Batches.{firsts, trees_from};
 ghost use Rattle.stmt_run.specs.Laid.{founds_of};
 
-use crate::laying::Shape;
+use crate::laid::Shape;
 use crate::queue::Queue;
 use pg_base::{Memory, Sequence};
 use rel_model::{Row, copy_cells};
