@@ -1,44 +1,43 @@
--- What a script gives, and the answer to a document over it.
-use Rattle.std.specs.Prelude.{◌≡◌, ℕ, List, [], Option, Some, None, slice_get, IsSomeAnd}
-use Rattle.pg_base.specs.Catalog.{CatalogParts}
-use Rattle.pg_base.specs.declared.table_def.TableDef.{TableDef}
-use Rattle.rel_model.specs.declared.tables.TableRows.{TableRows}
+-- The answer to a document over a catalog with its schema and its tables.
+use Rattle.std.specs.Prelude.{◌≡◌, ◌⊎◌, ℕ, List, Option, Some, None}
+use Rattle.pg_base.specs.Base.{BaseParts}
 use Rattle.rel_model.specs.declared.tables.Tables.{Tables}
-use Rattle.request_core.specs.declared.one_table.script.TableForm.{TableForm}
-use Rattle.request_core.specs.ScriptForm.{IsScript}
-use Rattle.request_core.specs.Loading.{catalog_of, tables_of}
-use Rattle.request_core.specs.DocumentForm.{IsDocument}
-use Rattle.request_core.specs.Response.{response_text}
+use Rattle.gql_reader.specs.declared.fault.ReadFault.{ReadFault}
+use Rattle.gql_reader.specs.declared.fault.ReadFault.TheVariants as read
+use Rattle.gql_reader.specs.declared.tree.Document.{Document}
+use Rattle.gql_reader.specs.Document.{ReadsDocument, IsReadFault}
+use Rattle.request_core.specs.declared.asking.Asked.{Asked}
+use Rattle.request_core.specs.Asking.{asked_of}
+use Rattle.request_core.specs.AllRows.{answer_of}
+use Rattle.request_core.specs.Refusals.{refusal_at, read_message}
 
--- the script is in the form, and this catalog and these opening rows are those of its table
-pub record Gives (bytes : List ℕ) (catalog : CatalogParts) (tables : Tables) : Type 0 where
-  pub form : TableForm
-  pub script : IsScript bytes form
-  pub catalog_is : catalog ≡ catalog_of form
-  pub tables_are : tables ≡ tables_of form
+-- the bytes are no document: the response has their first fault
+abbrev pub fault_text : ReadFault → List ℕ
+fault_text (read.At which at) = refusal_at (read_message which) at
+fault_text read.Memory = refusal_at (read_message 0) (record { line = 1; column = 1 })
 
--- the document is in the form for the catalog's table, and selects the columns at these places
-abbrev pub Selects : CatalogParts → List ℕ → List ℕ → Type 0
-Selects catalog document places = IsSomeAnd (slice_get catalog.tables 0) (λ t. IsDocument t document places)
+pub record IsRefused (document text : List ℕ) : Type 0 where
+  pub fault : ReadFault
+  pub fails : IsReadFault document fault
+  pub shown : text ≡ fault_text fault
 
-abbrev pub text_by : Option TableDef → Option TableRows → List ℕ → List ℕ
-text_by (Some t) (Some list) places = response_text t list.rows places
-text_by (Some t) None places = []
-text_by None (Some list) places = []
-text_by None None places = []
+-- the document is of the form, and the response shows what it asks for
+pub record Shows (base : BaseParts) (tables : Tables) (read : Document) (text : List ℕ) : Type 0 where
+  pub asked : Asked
+  pub asks : asked_of base.schema read.definitions ≡ Some asked
+  pub shown : text ≡ answer_of base.schema tables asked
 
--- the response that shows the columns at these places of all rows of the table
-abbrev pub answer_text : CatalogParts → Tables → List ℕ → List ℕ
-answer_text catalog tables places = text_by (slice_get catalog.tables 0) (slice_get tables.lists 0) places
+pub record IsShown (base : BaseParts) (tables : Tables) (document text : List ℕ) : Type 0 where
+  pub read : Document
+  pub reads : ReadsDocument document read
+  pub shows : Shows base tables read text
 
--- the text is the answer to what the document selects
-pub record IsAnswer (catalog : CatalogParts) (tables : Tables) (document text : List ℕ) : Type 0 where
-  pub places : List ℕ
-  pub selected : Selects catalog document places
-  pub shown : text ≡ answer_text catalog tables places
+-- the text is the answer to the document
+abbrev pub IsAnswer : BaseParts → Tables → List ℕ → List ℕ → Type 0
+IsAnswer base tables document text = IsRefused document text ⊎ IsShown base tables document text
 
--- the same over one table
-pub record IsAnswerOver (t : TableDef) (list : TableRows) (document text : List ℕ) : Type 0 where
-  pub places : List ℕ
-  pub selected : IsDocument t document places
-  pub shown : text ≡ response_text t list.rows places
+-- the bytes are a document, and not of the form
+pub record IsUnbuilt (base : BaseParts) (document : List ℕ) : Type 0 where
+  pub read : Document
+  pub reads : ReadsDocument document read
+  pub asks : asked_of base.schema read.definitions ≡ None

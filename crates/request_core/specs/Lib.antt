@@ -1,9 +1,6 @@
-pub mod Tokens
-pub mod Rules
-pub mod Seen
-pub mod ScriptForm
-pub mod DocumentForm
-pub mod Reading
-pub mod Loading
-pub mod Response
+pub mod Refusals
+pub mod Asking
+pub mod AllRows
 pub mod Answer
+pub mod Load
+pub mod FaultLines

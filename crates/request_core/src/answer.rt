@@ -1,64 +1,80 @@
 //! The answer to a document over a loaded script.
 
-ghost use Rattle.std.specs.Prelude.{◌<◌, ◌^◌, List, ℕ, IfOk, map, length};
-ghost use Rattle.pg_base.specs.Lists.{AreDistinct};
-ghost use Rattle.rel_model.specs.Tables.{AreValidTables};
-ghost use Rattle.request_core.specs.Answer.{Selects, answer_text, IsAnswer, IsAnswerOver};
-ghost use Rattle.request_core.specs.DocumentForm.{IsDocument};
-ghost use Rattle.request_core.specs.Reading.{GivesOrWants};
-ghost use Rattle.request_core.specs.Response.{response_text};
+ghost use Rattle.std.specs.Prelude.{◌≡◌, ◌⊎◌, None, IfOk, IfErr};
+ghost use Rattle.request_core.specs.Answer as spec;
+ghost use Rattle.request_core.specs.Asking as asked_by;
+ghost use Rattle.request_core.specs.declared.answer.Unanswered.TheVariants as unanswered;
 
-use crate::fault::FormFault;
-use crate::load::Loaded;
-use crate::one_table::document::{all_field, read_places};
-use crate::one_table::print::print;
-use pg_base::{Blob, TableDef};
-use rel_model::TableRows;
+use crate::all_rows::answer;
+use crate::asking::asked_of;
+use crate::refusals::{read_message, refusal_at};
+use gql_reader::{Document, ReadFault, read_document};
+use pg_base::{Base, Blob, Memory};
+use rel_model::Tables;
 use std::alloc::Global;
 
-/// The text of the response to a document: the columns that it selects of all rows of the script's table.
-///
-/// `NotInForm` comes exactly where the document is not in the form of documents over this table.
-pub fn answer_query(alloc: Global, loaded: &Loaded, document: &[u8]) -> Result<Blob, FormFault>
-    requires { AreValidTables loaded.now.catalog loaded.now.tables }
-    ensures ok { IfOk result (IsAnswer loaded.now.catalog loaded.now.tables document.now) }
-    ensures only { (places : List ℕ)
-        → Selects loaded.now.catalog document.now places
-        → GivesOrWants result (answer_text loaded.now.catalog loaded.now.tables places) }
-{
-    loaded.catalog.know();
-    let [table, ..] = loaded.catalog.tables() else {
-        return Err(FormFault::NotInForm);
-    };
-    let [list, ..] = loaded.tables.lists.as_slice() else {
-        return Err(FormFault::NotInForm);
-    };
-    let text = answer_over(alloc, table, list, document)?;
-    Ok(text)
+/// Why a document is not answered.
+#[derive(Drop)]
+pub enum Unanswered {
+    /// It is a document, and not of the form that is answered today.
+    NotBuilt,
+    /// Memory ran out.
+    Memory,
 }
 
-fn answer_over(
+impl From<Memory> for Unanswered {
+    ghost use Rattle.std.specs.Prelude.{◌≡◌};
+    ghost use Rattle.request_core.specs.declared.answer.Unanswered.TheVariants.{Memory as NoMemory};
+
+    ghost from_gives = { λ _ e. e ≡ NoMemory };
+
+    fn from(_: Memory) -> Unanswered {
+        Unanswered::Memory
+    }
+}
+
+/// The response to a document that is read.
+fn shown(
     alloc: Global,
-    table: &TableDef,
-    list: &TableRows,
-    document: &[u8],
-) -> Result<Blob, FormFault>
-    requires distinct { AreDistinct (map (λ c. c.name) table.now.columns) }
-    requires few { length table.now.columns < 2 ^ 32 }
-    ensures ok { IfOk result (IsAnswerOver table.now list.now document.now) }
-    ensures only { (places : List ℕ)
-        → IsDocument table.now document.now places
-        → GivesOrWants result (response_text table.now list.now.rows places) }
+    base: &Base,
+    tables: &Tables,
+    document: &Document,
+) -> Result<Blob, Unanswered>
+    ensures ok { IfOk result (λ text. spec.Shows base.now tables.now document.now text) }
+    ensures err { IfErr result (λ e. (e ≡ unanswered.Memory)
+        ⊎ (asked_by.asked_of base.now.schema document.now.definitions ≡ None)) }
 {
-    let all = all_field(alloc, table.name.bytes())?;
-    let columns = table.columns.as_slice();
-    let places = read_places(alloc, columns, all.as_slice(), document)?;
-    let text = print(
-        alloc,
-        all.as_slice(),
-        columns,
-        list.rows.as_slice(),
-        places.as_slice(),
-    )?;
-    Ok(Blob::of(text))
+    match asked_of(alloc, base.schema(), document)? {
+        None => Err(Unanswered::NotBuilt),
+        Some(asked) => {
+            let text = answer(alloc, base.schema(), tables, &asked)?;
+            Ok(text)
+        }
+    }
+}
+
+/// The response to the bytes of a document: their first fault where they are none, else what the document asks for.
+///
+/// # Errors
+/// `NotBuilt` where the bytes are a document that isn't of the one form that is answered today, or out of memory.
+pub fn answer_document(
+    alloc: Global,
+    base: &Base,
+    tables: &Tables,
+    bytes: &[u8],
+) -> Result<Blob, Unanswered>
+    ensures ok { IfOk result (spec.IsAnswer base.now tables.now bytes.now) }
+    ensures err { IfErr result (λ e. (e ≡ unanswered.Memory) ⊎ spec.IsUnbuilt base.now bytes.now) }
+{
+    match read_document(alloc, bytes) {
+        Ok(document) => {
+            let text = shown(alloc, base, tables, &document)?;
+            Ok(text)
+        }
+        Err(ReadFault::At { which, pos }) => {
+            let text = refusal_at(alloc, read_message(which), pos)?;
+            Ok(text)
+        }
+        Err(ReadFault::Memory) => Err(Unanswered::Memory),
+    }
 }

@@ -1,18 +1,14 @@
 //! One request: a script and a document to the bytes of the answer.
-//!
-//! Today a script is a table of one letter and a document names its columns (`one_table`).
 #![tactic(auto)]
 
+mod all_rows;
 mod answer;
-mod fault;
-mod load;
-mod one_table;
+mod asking;
+mod fault_lines;
+mod loading;
+mod refusals;
 
-pub use answer::answer_query;
-pub use fault::FormFault;
-pub use load::{Loaded, read_script};
-pub use one_table::script::TableForm;
-pub use one_table::tokens::Blanks;
-
-#[cfg(test)]
-mod tests;
+pub use answer::{Unanswered, answer_document};
+pub use asking::{Asked, Chosen, Shown};
+pub use fault_lines::put_fault_line;
+pub use loading::{LoadError, LoadFault, Loaded, load};

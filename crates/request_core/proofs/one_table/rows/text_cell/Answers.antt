@@ -1,5 +1,0 @@
-use Rattle.request_core.proofs.Ascii.{plain_utf8}
-use Rattle.request_core.proofs.one_table.rows.text_cell.Goals as goal
-
-pub of_bytes-requires : goal.of_bytes-requires
-of_bytes-requires c = rw c.in_ok-from_slice.ensures.items (plain_utf8 _ c.requires)
