@@ -1,5 +1,5 @@
 pub mod Delivery
 pub mod Held
 pub mod Order
-pub mod QueryStages
+pub mod TaskStages
 pub mod RunEnds

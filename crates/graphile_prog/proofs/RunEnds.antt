@@ -1,48 +1,102 @@
 -- How a run ends, from what its parts say.
-use Rattle.std.proofs.Common.{◌≡◌, ◌⊎◌, inl, inr, ℕ, ◌<◌, ◌≤◌, List, length, Option, Some, None, arith}
+use Rattle.std.proofs.Common.{◌≡◌, ◌⊎◌, inl, inr, ℕ, ◌<◌, ◌≤◌, List, [], ◌∷◌, ◌++◌, length, Option, Some, None, arith, sym, subst}
+use Rattle.pg_base.specs.Base.{BaseParts}
 use Rattle.pg_base.specs.Limits.{most_script_bytes, most_document_bytes}
-use Rattle.pg_io.specs.Files.{Told, Holds}
-use Rattle.graphile_prog.specs.Words.{Query}
+use Rattle.request_core.specs.Load.{IsLoadFault}
+use Rattle.request_core.proofs.OneAnswer.{loads_no_fault, loads_unbuilt_no_answer}
+use Rattle.graphile_prog.specs.Words.{Command, check, schema, query}
 use Rattle.graphile_prog.specs.Told.{Outside, Output, IfHeld}
-use Rattle.graphile_prog.specs.Stages.{Ends, AreRefused, OrMemory}
-use Rattle.graphile_prog.specs.Query.{IsSomeScript, IsNoScript, IsSomeDocument, IsNoDocument, Over, query_stages, WroteResponse}
-use Rattle.graphile_prog.specs.Run.{HasEnd, IsUnhindered, IsComplete}
+use Rattle.graphile_prog.specs.Stages.{Ends, AreRefused, ArePassed, OrMemory}
+use Rattle.graphile_prog.specs.Commands.{IsSomeScript, IsAnswered, IsUnanswered, script_stages, document_stages, task_of, Wrote, Delivered}
+use Rattle.graphile_prog.specs.Parts.{IsPassed, Tells}
+use Rattle.graphile_prog.specs.Run.{HasEnd, IsSafe, IsUnhindered, IsComplete}
 use Rattle.graphile_prog.specs.declared.status.Status.{Status}
 use Rattle.graphile_prog.specs.declared.status.Status.TheVariants as status
-use Rattle.graphile_prog.proofs.Order.{ends_refused}
-use Rattle.graphile_prog.proofs.Held.{held_at}
+use Rattle.graphile_prog.proofs.Order.{ends_refused, ends_passed, RefuseNone, none_both, past}
+use Rattle.graphile_prog.proofs.Held.{held_apart, both_apart}
 
--- a refused query ends so
-pub ended_refused : (q : Query) (o : Outside) (out : Output) (answered : Status) → OrMemory (AreRefused (query_stages o q.script q.document)) answered → HasEnd (Some q) o out answered
-ended_refused q o out answered (inl m) = inl m
-ended_refused q o out answered (inr r) = inr (ends_refused (query_stages o q.script q.document) (WroteResponse o q.script q.document out) answered r)
+-- a refused command ends so
+pub ended_refused : (c : Command) (o : Outside) (out : Output) (answered : Status) → OrMemory (AreRefused (task_of o c).stages) answered → HasEnd (Some c) o out answered
+ended_refused c o out answered (inl m) = inl m
+ended_refused c o out answered (inr r) = inr (ends_refused (task_of o c).stages (Wrote (task_of o c).writes out) answered r)
 
-too_large : (told : Told) (bytes : List ℕ) (n : ℕ) → told ≡ Holds bytes → IfHeld told (λ b. n < length b) → IfHeld told (λ b. length b ≤ n) → ⊥
-too_large told bytes n is large small =
-    let a : n < length bytes = held_at told bytes (λ b. n < length b) is large in
-    let b : length bytes ≤ n = held_at told bytes (λ b. length b ≤ n) is small in
-    omega (arith, a, b)
+-- and one that is performed
+pub ended_passed : (c : Command) (o : Outside) (out : Output) (answered : Status) (text : List ℕ) → IsPassed o c text → Delivered text out answered → HasEnd (Some c) o out answered
+ended_passed c o out answered text p d =
+    inr (ends_passed (task_of o c).stages (Wrote (task_of o c).writes out) answered p.stages (record { text = text; due = p.due; delivered = d }))
 
-unhindered : (q : Query) (o : Outside) (out : Output) (answered : Status) → IsUnhindered o out q
-    → Ends (query_stages o q.script q.document) (WroteResponse o q.script q.document out) answered → (answered ≡ status.Done) ⊎ (answered ≡ status.Memory)
-unhindered q o out answered u (inl r) = absurd (u.script_read r.1.rose)
-unhindered q o out answered u (inr (_, inl r)) = absurd (too_large (o.file q.script) u.script most_script_bytes u.script_held r.1 u.passed.1.0)
-unhindered q o out answered u (inr (_, inr (_, inl r))) =
-    let none = held_at (o.file q.script) u.script IsNoScript u.script_held r.1 in
-    let some = held_at (o.file q.script) u.script IsSomeScript u.script_held u.passed.1.1.0 in
-    absurd (none some.0 some.1 some.2)
-unhindered q o out answered u (inr (_, inr (_, inr (_, inl r)))) = absurd (u.document_read r.1.rose)
-unhindered q o out answered u (inr (_, inr (_, inr (_, inr (_, inl r))))) = absurd (too_large (o.file q.document) u.document most_document_bytes u.document_held r.1 u.passed.1.1.1.1.0)
-unhindered q o out answered u (inr (_, inr (_, inr (_, inr (_, inr (_, inl r)))))) =
-    let some = held_at (o.file q.script) u.script IsSomeScript u.script_held u.passed.1.1.0 in
-    let refused = held_at (o.file q.document) u.document (Over IsNoDocument u.script) u.document_held (held_at (o.file q.script) u.script (λ b. IfHeld (o.file q.document) (Over IsNoDocument b)) u.script_held r.1) in
-    let taken = held_at (o.file q.document) u.document (Over IsSomeDocument u.script) u.document_held (held_at (o.file q.script) u.script (λ b. IfHeld (o.file q.document) (Over IsSomeDocument b)) u.script_held u.passed.1.1.1.1.1.0) in
-    let places = taken some.0 some.1 some.2 in
-    absurd (refused some.0 some.1 some.2 places.0 places.1)
-unhindered q o out answered u (inr (_, inr (_, inr (_, inr (_, inr (_, inr (_, wrote))))))) = elim wrote.delivered [ inl d ↦ inl d.0 | inr d ↦ absurd (u.written d.1.1) ]
+-- ---- where nothing hinders
+
+not_both : (n : ℕ) (b : List ℕ) → n < length b → length b ≤ n → ⊥
+not_both n b large small = omega (arith, large, small)
+
+script_taken : (o : Outside) (name : List ℕ) → IsSafe o name → ArePassed (script_stages o name) → RefuseNone (script_stages o name)
+script_taken o name safe passed = (
+  (λ s r. safe.1 r.1.rose),
+  (
+    (λ s r. held_apart (o.file name) (λ b. most_script_bytes < length b) (λ b. length b ≤ most_script_bytes) safe.0 (not_both most_script_bytes) r.1 passed.1.0),
+    (
+      (λ s r. held_apart (o.file name) (λ b. IsLoadFault b r.fault) IsSomeScript safe.0 (λ b f some. loads_no_fault b some.0 some.1 r.fault some.2 f) r.cause passed.1.1.0),
+      tt,
+    ),
+  ),
+)
+
+document_taken : (o : Outside) (script document : List ℕ) → IsSafe o script → IsSafe o document → ArePassed (document_stages o script document)
+    → RefuseNone (document_stages o script document)
+document_taken o script document safe safe_too passed = (
+  (λ s r. safe_too.1 r.1.rose),
+  (
+    (λ s r. held_apart (o.file document) (λ b. most_document_bytes < length b) (λ b. length b ≤ most_document_bytes) safe_too.0 (not_both most_document_bytes) r.1 passed.1.0),
+    (
+      (λ s r. both_apart (o.file script) (o.file document) IsUnanswered IsAnswered safe.0 safe_too.0
+          (λ b d none some. loads_unbuilt_no_answer b d none.0 some.0 none.1 some.1 some.3 none.2 some.2 none.3 some.4) r.1 passed.1.1.0),
+      tt,
+    ),
+  ),
+)
+
+first_passed : (o : Outside) (script document : List ℕ) → ArePassed (script_stages o script ++ document_stages o script document) → ArePassed (script_stages o script)
+first_passed o script document p = (p.0, (p.1.0, (p.1.1.0, tt)))
+
+taken : (c : Command) (o : Outside) (out : Output) → IsUnhindered o out c → RefuseNone (task_of o c).stages
+taken (check script) o out u = script_taken o script u.safe.0 u.passed
+taken (schema script) o out u = script_taken o script u.safe.0 u.passed
+taken (query script document) o out u =
+    none_both (script_stages o script) (document_stages o script document)
+    (script_taken o script u.safe.0 (first_passed o script document u.passed))
+    (document_taken o script document u.safe.0 u.safe.1.0 u.passed.1.1.1)
+
+unhindered : (c : Command) (o : Outside) (out : Output) (answered : Status) → IsUnhindered o out c
+    → Ends (task_of o c).stages (Wrote (task_of o c).writes out) answered → (answered ≡ status.Done) ⊎ (answered ≡ status.Memory)
+unhindered c o out answered u e =
+    let wrote = past (task_of o c).stages (Wrote (task_of o c).writes out) answered (taken c o out u) e in
+    elim wrote.delivered [ inl d ↦ inl d.0 | inr d ↦ absurd (u.written d.1.1) ]
 
 -- what nothing hinders is done, or memory ran out
-pub complete : (asked : Option Query) (o : Outside) (out : Output) (answered : Status) → HasEnd asked o out answered → IsComplete asked o out answered
+pub complete : (asked : Option Command) (o : Outside) (out : Output) (answered : Status) → HasEnd asked o out answered → IsComplete asked o out answered
 complete None o out answered e = tt
-complete (Some q) o out answered (inl m) = λ u. inr m
-complete (Some q) o out answered (inr e) = λ u. unhindered q o out answered u e
+complete (Some c) o out answered (inl m) = λ u. inr m
+complete (Some c) o out answered (inr e) = λ u. unhindered c o out answered u e
+
+-- a status that is told is itself, or memory ran out for its line
+told : (s t : Status) → Tells s t → (t ≡ s) ⊎ (t ≡ status.Memory)
+told status.Done t e = inl e
+told status.BadWords t e = inl e
+told (status.ScriptRefused f) t e = e
+told (status.Unbuilt f) t e = inl e
+told status.FileFault t e = inl e
+told status.WriteFault t e = inl e
+told status.TooLarge t e = inl e
+told status.Memory t e = inl e
+
+told_end : (c : Command) (o : Outside) (out : Output) (s t : Status) → OrMemory (AreRefused (task_of o c).stages) s → (t ≡ s) ⊎ (t ≡ status.Memory) → HasEnd (Some c) o out t
+told_end c o out s t r (inl e) = subst (λ (x : Status). HasEnd (Some c) o out x) (sym e) (ended_refused c o out s r)
+told_end c o out s t r (inr e) = inl e
+
+-- of the words' command
+pub ended_told : (asked : Option Command) (c : Command) (o : Outside) (out : Output) (s t : Status) → asked ≡ Some c → OrMemory (AreRefused (task_of o c).stages) s → Tells s t → HasEnd asked o out t
+ended_told asked c o out s t is r e = subst (λ (a : Option Command). HasEnd a o out t) (sym is) (told_end c o out s t r (told s t e))
+
+pub ended_done : (asked : Option Command) (c : Command) (o : Outside) (out : Output) (answered : Status) (text : List ℕ) → asked ≡ Some c → IsPassed o c text → Delivered text out answered → HasEnd asked o out answered
+ended_done asked c o out answered text is p d = subst (λ (a : Option Command). HasEnd a o out answered) (sym is) (ended_passed c o out answered text p d)

@@ -2,6 +2,6 @@ pub mod Words
 pub mod Status
 pub mod Told
 pub mod Stages
-pub mod Query
+pub mod Commands
 pub mod Parts
 pub mod Run

@@ -1,17 +1,26 @@
 //! One answer: what a script and a pair of files give is one value. The bodies are empty; the contracts are the laws.
 
 ghost use Rattle.std.specs.Prelude.{◌≡◌, ℕ, List};
-ghost use Rattle.pg_base.specs.Catalog.{CatalogParts};
+ghost use Rattle.pg_base.specs.Base.{BaseParts};
 ghost use Rattle.rel_model.specs.declared.tables.Tables.{Tables};
-ghost use Rattle.request_core.specs.Answer.{Gives};
-ghost use Rattle.graphile_prog.specs.Query.{IsResponse};
+ghost use Rattle.request_core.specs.Load.{Loads, IsLoadFault};
+ghost use Rattle.request_core.specs.declared.loading.LoadFault.{LoadFault};
+ghost use Rattle.graphile_prog.specs.Commands.{IsResponse};
 
-/// A script gives one catalog and one table set.
+/// A script gives one catalog, with its schema, and one table set.
 pub fn script_gives_one_catalog()
-    ensures { (script : List ℕ) (catalog other : CatalogParts) (tables more : Tables)
-        → Gives script catalog tables
-        → Gives script other more
-        → (catalog ≡ other) × (tables ≡ more) }
+    ensures { (script : List ℕ) (base other : BaseParts) (tables more : Tables)
+        → Loads script base tables
+        → Loads script other more
+        → (base ≡ other) × (tables ≡ more) }
+{}
+
+/// A script that gives something has no fault.
+pub fn script_has_no_fault()
+    ensures { (script : List ℕ) (base : BaseParts) (tables : Tables) (fault : LoadFault)
+        → Loads script base tables
+        → IsLoadFault script fault
+        → ⊥ }
 {}
 
 /// A script and a document have one response.

@@ -1,19 +1,20 @@
 //! The program: relational tables as a GraphQL API.
 #![tactic(auto)]
 
+mod commands;
 mod laws;
-mod query;
 mod run;
 mod status;
+mod telling;
 mod words;
 
 use pg_io::{StdFiles, StdSink, StdSource, System};
-use run::{run_once, tell};
-use status::Status;
+use run::run_once;
 use std::alloc::AllocError;
 use std::io::ErrorKind;
 use std::process::ExitCode;
 use std::{env, io};
+use telling::tell_memory;
 
 /// Hands the real files and streams to the run, and its status to the system.
 fn main(rt: HostRuntime) -> ExitCode {
@@ -23,7 +24,7 @@ fn main(rt: HostRuntime) -> ExitCode {
     let mut sink = StdSink::over(rt.stdout());
     let status = match words_of(&rt) {
         Ok(words) => run_once(alloc, words.as_slice(), &mut files, &mut source, &mut sink),
-        Err(AllocError) => tell(&mut sink, Status::Memory),
+        Err(AllocError) => tell_memory(&mut sink),
     };
     status.exit_code()
 }

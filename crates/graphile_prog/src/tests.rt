@@ -1,4 +1,4 @@
-//! Rows of the command `query` over files and sinks in memory.
+//! Rows of the commands over files and sinks in memory.
 
 ghost use Rattle.std.specs.Prelude.{ℕ, List};
 ghost use Rattle.pg_io.specs.Files.{Untold};
@@ -17,20 +17,42 @@ const SCRIPT: &str =
 const DOCUMENT: &str = "{ allTs { nodes { s id } } }";
 
 /// Words, a script and a document (a dot for those above), the calls of files and sink that fail, and a status with what
-/// is written, but for a line feed at its end.
-const ROWS: &str =
-    r#"query t.sql q.graphql | . | . |  |  => Done {"data":{"allTs":{"nodes":[{"s":"b","id":2},{"s":null,"id":1}]}}}
- | . | . |  |  => BadWords bad words
+/// is written, `$` in place of a line feed.
+const ROWS: &str = r#"
+query t.sql q.graphql | . | . |  |  => Done {"data":{"allTs":{"nodes":[{"s":"b","id":2},{"s":null,"id":1}]}}}$
+check t.sql | . | . |  |  => Done ok$
+check t.sql |  | . |  |  => ScriptRefused schema fault 4: Query$
+ | . | . |  |  => BadWords bad words$
  | . | . |  | 1 => BadWords 
-query t.sql | . | . |  |  => BadWords bad words
-query -t.sql q.graphql | . | . |  |  => BadWords bad words
-query t.sql q.graphql | CREATE TABLE | . |  |  => Unbuilt(Script) not built: script
-query t.sql q.graphql | CREATE TABLE | { | 2 |  => Unbuilt(Script) not built: script
-query t.sql none | CREATE TABLE | . |  |  => Unbuilt(Script) not built: script
-query t.sql q.graphql | . | { allTs { nodes { x } } } |  |  => Unbuilt(Document) not built: document
-query t.sql q.graphql | . | . | 1 |  => FileFault file fault
-query t.sql q.graphql | . | . | 2 |  => FileFault file fault
-query t.sql none | . | . |  |  => FileFault file fault
+query t.sql | . | . |  |  => BadWords bad words$
+check t.sql q.graphql | . | . |  |  => BadWords bad words$
+check -t.sql | . | . |  |  => BadWords bad words$
+schema | . | . |  |  => BadWords bad words$
+query -t.sql q.graphql | . | . |  |  => BadWords bad words$
+query t.sql q.graphql | CREATE TABLE | . |  |  => ScriptRefused script fault 2 at 1:13$
+query t.sql q.graphql | CREATE TABLE | { | 2 |  => ScriptRefused script fault 2 at 1:13$
+query t.sql none | CREATE TABLE | . |  |  => ScriptRefused script fault 2 at 1:13$
+check t.sql | CREATE TABLE t (id uuid); | . |  |  => ScriptRefused script fault 3 at 1:20: uuid$
+check t.sql | CREATE TABLE t (id uuid); | . |  | 1 => ScriptRefused 
+check t.sql | CREATE TABLE t (id integer PRIMARY KEY, a_b text, "aB" text); | . |  |  => ScriptRefused schema fault 1: T.aB$
+schema t.sql | CREATE TABLE t (id integer PRIMARY KEY); INSERT INTO t VALUES (1), (1); | . |  |  => ScriptRefused rows fault 4 at 1:68: t_pkey$
+query t.sql q.graphql | CREATE TABLE n (id bigint PRIMARY KEY, s text); INSERT INTO n VALUES (-9223372036854775808, E'a"\\\t'); | { allNs { nodes { id s } } } |  |  => Done {"data":{"allNs":{"nodes":[{"id":"-9223372036854775808","s":"a\"\\\t"}]}}}$
+query t.sql q.graphql | CREATE TABLE t (id serial PRIMARY KEY, s text DEFAULT 'd', n integer); INSERT INTO t (n) VALUES (1); INSERT INTO t VALUES (5, DEFAULT, NULL); INSERT INTO t (s) VALUES (NULL); | { allTs { nodes { id s n } } } |  |  => Done {"data":{"allTs":{"nodes":[{"id":1,"s":"d","n":1},{"id":5,"s":"d","n":null},{"id":6,"s":null,"n":null}]}}}$
+query t.sql q.graphql | CREATE TYPE e AS ENUM ('x-y'); CREATE TABLE "T" (b boolean, c e); INSERT INTO "T" VALUES (true, 'x-y'), (NULL, NULL); | { allTs { nodes { c __typename b } } } |  |  => Done {"data":{"allTs":{"nodes":[{"c":"X_Y","__typename":"T","b":true},{"c":null,"__typename":"T","b":null}]}}}$
+query t.sql q.graphql | . |  |  |  => Done {"errors":[{"message":"document syntax fault","locations":[{"line":1,"column":1}]}]}$
+query t.sql q.graphql | . | { % |  |  => Done {"errors":[{"message":"document lexical fault","locations":[{"line":1,"column":3}]}]}$
+query t.sql q.graphql | . | { allTs { nodes { x } } } |  |  => Unbuilt not built: document$
+query t.sql q.graphql | . | { allTs { nodes { s s } } } |  |  => Unbuilt not built: document$
+query t.sql q.graphql | . | { a: allTs { nodes { s } } } |  |  => Unbuilt not built: document$
+query t.sql q.graphql | . | query Q { allTs { nodes { s } } } |  |  => Unbuilt not built: document$
+query t.sql q.graphql | . | { allTs { nodes { s @skip(if: true) } } } |  |  => Unbuilt not built: document$
+query t.sql q.graphql | . | { allTs(first: 1) { nodes { s } } } |  |  => Unbuilt not built: document$
+query t.sql q.graphql | . | { allTs { totalCount } } |  |  => Unbuilt not built: document$
+query t.sql q.graphql | . | { allTs { nodes } } |  |  => Unbuilt not built: document$
+query t.sql q.graphql | . | { allTs { nodes { s { s } } } } |  |  => Unbuilt not built: document$
+query t.sql q.graphql | . | . | 1 |  => FileFault file fault$
+query t.sql q.graphql | . | . | 2 |  => FileFault file fault$
+query t.sql none | . | . |  |  => FileFault file fault$
 query t.sql q.graphql | . | . |  | 2 => WriteFault {"data":{"allTs":{"nodes":[{"s":"b","id":2},{"s":null,"id":1}]}}}"#;
 
 /// What a run wrote, and how it ended.
@@ -81,12 +103,25 @@ fn files_of(alloc: Global, script: &str, document: &str, fault: &str) -> Result<
     Ok(MemFiles::of(alloc, held, failing(alloc, fault)?))
 }
 
-/// A status, a space, and what was written but for a line feed at its end.
+fn name_of(status: &Status) -> &'static str {
+    match status {
+        Status::Done => "Done ",
+        Status::BadWords => "BadWords ",
+        Status::ScriptRefused(_) => "ScriptRefused ",
+        Status::Unbuilt(_) => "Unbuilt ",
+        Status::FileFault => "FileFault ",
+        Status::WriteFault => "WriteFault ",
+        Status::TooLarge => "TooLarge ",
+        Status::Memory => "Memory ",
+    }
+}
+
+/// A status, a space, and what was written, `$` in place of a line feed.
 fn shown(alloc: Global, ended: &Ended) -> Result<Vec<u8>, Memory> {
-    let status = format!(in alloc; "{:?} ", ended.status)?;
-    let mut shown = Vec::from_slice(alloc, status.as_bytes())?;
-    let written = ended.written.as_slice();
-    shown.extend_from_slice(written.strip_suffix(b"\n").unwrap_or(written))?;
+    let mut shown = Vec::from_slice(alloc, name_of(&ended.status).as_bytes())?;
+    for byte in ended.written.as_slice() {
+        shown.push(if *byte == b'\n' { b'$' } else { *byte })?;
+    }
     Ok(shown)
 }
 
@@ -97,7 +132,7 @@ fn text_or<'a>(text: &'a str, known: &'a str) -> &'a str {
 #[test]
 fn each_status_has_its_row(rt: HostRuntime) -> Result<(), Fail> {
     let alloc = rt.alloc();
-    for row in ROWS.lines() {
+    for row in ROWS.trim().lines() {
         let (input, wanted) = row.split_once(" => ").ok_or("no arrow")?;
         let (words, input) = input.split_once(" | ").ok_or("no script")?;
         let (script, input) = input.split_once(" | ").ok_or("no document")?;
@@ -111,6 +146,60 @@ fn each_status_has_its_row(rt: HostRuntime) -> Result<(), Fail> {
             shown(alloc, &ended)?.as_slice(),
             wanted.as_bytes(),
             "{row}"
+        );
+    }
+    Ok(())
+}
+
+/// The opening, and then the piece n times.
+fn repeated(alloc: Global, opening: &str, piece: &str, n: usize) -> Result<Vec<u8>, Memory> {
+    let mut text = Vec::from_slice(alloc, opening.as_bytes())?;
+    for _ in 0..n {
+        text.extend_from_slice(piece.as_bytes())?;
+    }
+    Ok(text)
+}
+
+/// A document's opening and a piece n times, and the response to it.
+const SIZES: [(&str, &str, usize, &str); 4] = [
+    (
+        "{ allTs { nodes { id } } }",
+        " ",
+        65_510,
+        r#"Done {"data":{"allTs":{"nodes":[{"id":2},{"id":1}]}}}$"#,
+    ),
+    (
+        "{ allTs { nodes { id } } }",
+        " ",
+        65_511,
+        "TooLarge too large$",
+    ),
+    (
+        "",
+        "{a",
+        65,
+        r#"Done {"errors":[{"message":"document too deep","locations":[{"line":1,"column":129}]}]}$"#,
+    ),
+    (
+        "{",
+        "a ",
+        8192,
+        r#"Done {"errors":[{"message":"document has too many tokens","locations":[{"line":1,"column":16384}]}]}$"#,
+    ),
+];
+
+#[test]
+fn deep_long_and_large_documents_are_refused(rt: HostRuntime) -> Result<(), Fail> {
+    let alloc = rt.alloc();
+    for (opening, piece, n, wanted) in SIZES {
+        let document = repeated(alloc, opening, piece, n)?;
+        let document = str::from_utf8(document.as_slice()).map_err(|_| "no text")?;
+        let mut files = files_of(alloc, SCRIPT, document, "")?;
+        let ended = run(alloc, "query t.sql q.graphql", &mut files, "")?;
+        assert_eq!(rt;
+            shown(alloc, &ended)?.as_slice(),
+            wanted.as_bytes(),
+            "{wanted}"
         );
     }
     Ok(())
@@ -134,6 +223,6 @@ impl Files for NoMemory {
 fn memory_that_runs_out_has_its_line(rt: HostRuntime) -> Result<(), Fail> {
     let ended = run(rt.alloc(), "query t.sql q.graphql", &mut NoMemory, "")?;
     let shown = shown(rt.alloc(), &ended)?;
-    assert_eq!(rt; shown.as_slice(), b"Memory out of memory".as_slice());
+    assert_eq!(rt; shown.as_slice(), b"Memory out of memory$".as_slice());
     Ok(())
 }

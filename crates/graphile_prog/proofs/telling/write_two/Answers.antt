@@ -1,6 +1,6 @@
 use Rattle.std.proofs.Common.{rules}
 use Rattle.graphile_prog.proofs.Delivery.{delivered_then}
-use Rattle.graphile_prog.proofs.run.write_line.Goals as goal
+use Rattle.graphile_prog.proofs.telling.write_two.Goals as goal
 
 pub returns-in_err-write_all-2-clause-bytes : goal.returns-in_err-write_all-2-clause-bytes
 returns-in_err-write_all-2-clause-bytes g c =

@@ -1,0 +1,240 @@
+//! The commands: from the files that they name to the text that they write.
+
+ghost use Rattle.std.specs.Prelude.{◌≡◌, ◌⊎◌, ◌++◌, ◌∷◌, [], ℕ, List, IfOk, IfErr, OnOk};
+ghost use Rattle.pg_base.specs.Base.{BaseParts};
+ghost use Rattle.rel_model.specs.Tables.{AreValidTables};
+ghost use Rattle.schema_build.specs.Sdl.{sdl_of};
+ghost use Rattle.request_core.specs.Load.{Loads, IsLoadFault};
+ghost use Rattle.request_core.specs.Answer.{IsAnswer, IsUnbuilt};
+ghost use Rattle.graphile_prog.specs.declared.status.Form.TheVariants as form_is;
+ghost use Rattle.graphile_prog.specs.declared.status.Status.TheVariants as status_is;
+ghost use Rattle.graphile_prog.specs.Told.{outside, CountsStay};
+ghost use Rattle.graphile_prog.specs.Stages.{AreRefused, Because, OrMemory};
+ghost use Rattle.graphile_prog.specs.Words as words;
+ghost use Rattle.graphile_prog.specs.Commands as spec;
+ghost use Rattle.graphile_prog.specs.Parts as parts;
+
+use crate::status::{Form, Status};
+use crate::words::Command;
+use pg_base::limits::{MOST_DOCUMENT_BYTES, MOST_SCRIPT_BYTES};
+use pg_base::{Blob, Schema};
+use pg_io::{FileFault, Files};
+use request_core::{LoadError, Loaded, Unanswered, answer_document, load};
+use schema_build::print_schema;
+use std::alloc::Global;
+
+/// What a command writes.
+#[derive(Drop)]
+pub struct Page {
+    pub text: Blob,
+    /// Whether a line feed comes after the text.
+    pub line_feed: bool,
+}
+
+fn line(text: Blob) -> Page
+    ensures { parts.written result ≡ text ++ 10 ∷ [] }
+{
+    Page {
+        text,
+        line_feed: true,
+    }
+}
+
+fn lines(text: Blob) -> Page
+    ensures { parts.written result ≡ text }
+{
+    Page {
+        text,
+        line_feed: false,
+    }
+}
+
+/// What the command writes, or why it writes nothing.
+pub fn perform<F: Files>(alloc: Global, command: Command<'_>, files: &mut F) -> Result<Page, Status>
+    ensures ok { IfOk result (λ page. parts.IsPassed
+        (outside (F.file files.old) (F.faults files.old) (F.faults files.new))
+        (words.read command.entry) (parts.written page)) }
+    ensures err { IfErr result (OrMemory (AreRefused (spec.task_of
+        (outside (F.file files.old) (F.faults files.old) (F.faults files.new))
+        (words.read command.entry)).stages)) }
+    ensures quiet { OnOk result (CountsStay (F.faults files.old) (F.faults files.new)) }
+    ensures counts { IfErr result
+        (parts.CountsStayBut (F.faults files.old) (F.faults files.new)) }
+    ensures kept { (name : List ℕ) → F.file files.new name ≡ F.file files.old name }
+{
+    match command {
+        Command::Check(script) => check(alloc, script, files),
+        Command::Schema(script) => schema(alloc, script, files),
+        Command::Query(script, document) => query(alloc, script, document, files),
+    }
+}
+
+/// Says that the script gives something.
+fn check<F: Files>(alloc: Global, script: &str, files: &mut F) -> Result<Page, Status>
+    ensures ok { IfOk result (λ page. parts.IsPassed
+        (outside (F.file files.old) (F.faults files.old) (F.faults files.new))
+        (words.check script.now) (parts.written page)) }
+    ensures err { IfErr result (OrMemory (AreRefused (spec.script_stages
+        (outside (F.file files.old) (F.faults files.old) (F.faults files.new))
+        script.now))) }
+    ensures quiet { OnOk result (CountsStay (F.faults files.old) (F.faults files.new)) }
+    ensures counts { IfErr result
+        (parts.CountsStayBut (F.faults files.old) (F.faults files.new)) }
+    ensures kept { (name : List ℕ) → F.file files.new name ≡ F.file files.old name }
+{
+    let _loaded = load_file(alloc, script, files)?;
+    let text = blob_of(alloc, b"ok")?;
+    Ok(line(text))
+}
+
+fn blob_of(alloc: Global, bytes: &[u8]) -> Result<Blob, Status>
+    ensures ok { IfOk result (λ text. text ≡ bytes.now) }
+    ensures err { IfErr result (λ status. status ≡ status_is.Memory) }
+{
+    match Vec::from_slice(alloc, bytes) {
+        Ok(bytes) => Ok(Blob::of(bytes)),
+        Err(_) => Err(Status::Memory),
+    }
+}
+
+/// The text of the schema of what the script gives.
+fn schema<F: Files>(alloc: Global, script: &str, files: &mut F) -> Result<Page, Status>
+    ensures ok { IfOk result (λ page. parts.IsPassed
+        (outside (F.file files.old) (F.faults files.old) (F.faults files.new))
+        (words.schema script.now) (parts.written page)) }
+    ensures err { IfErr result (OrMemory (AreRefused (spec.script_stages
+        (outside (F.file files.old) (F.faults files.old) (F.faults files.new))
+        script.now))) }
+    ensures quiet { OnOk result (CountsStay (F.faults files.old) (F.faults files.new)) }
+    ensures counts { IfErr result
+        (parts.CountsStayBut (F.faults files.old) (F.faults files.new)) }
+    ensures kept { (name : List ℕ) → F.file files.new name ≡ F.file files.old name }
+{
+    let loaded = load_file(alloc, script, files)?;
+    let text = schema_text(alloc, loaded.base.schema())?;
+    Ok(lines(text))
+}
+
+fn schema_text(alloc: Global, schema: &Schema) -> Result<Blob, Status>
+    ensures ok { IfOk result (λ text. text ≡ sdl_of schema.now) }
+    ensures err { IfErr result (λ status. status ≡ status_is.Memory) }
+{
+    match print_schema(alloc, schema) {
+        Ok(text) => Ok(text),
+        Err(_) => Err(Status::Memory),
+    }
+}
+
+/// The response to the document over what the script gives.
+fn query<F: Files>(
+    alloc: Global,
+    script: &str,
+    document: &str,
+    files: &mut F,
+) -> Result<Page, Status>
+    ensures ok { IfOk result (λ page. parts.IsPassed
+        (outside (F.file files.old) (F.faults files.old) (F.faults files.new))
+        (words.query script.now document.now) (parts.written page)) }
+    ensures err { IfErr result (OrMemory (AreRefused (spec.script_stages
+        (outside (F.file files.old) (F.faults files.old) (F.faults files.new)) script.now
+        ++ spec.document_stages
+        (outside (F.file files.old) (F.faults files.old) (F.faults files.new))
+        script.now document.now))) }
+    ensures quiet { OnOk result (CountsStay (F.faults files.old) (F.faults files.new)) }
+    ensures counts { IfErr result
+        (parts.CountsStayBut (F.faults files.old) (F.faults files.new)) }
+    ensures kept { (name : List ℕ) → F.file files.new name ≡ F.file files.old name }
+{
+    let loaded = load_file(alloc, script, files)?;
+    let text = answer_file(alloc, document, &loaded, files)?;
+    Ok(line(text))
+}
+
+/// Reads the script's file, and loads it.
+fn load_file<F: Files>(alloc: Global, name: &str, files: &mut F) -> Result<Loaded, Status>
+    ensures ok { IfOk result (λ loaded.
+        parts.IsLoaded (F.file files.old name.now) loaded.base loaded.tables) }
+    ensures valid { IfOk result (λ loaded. AreValidTables loaded.base.catalog loaded.tables) }
+    ensures err { IfErr result (OrMemory (AreRefused (spec.script_stages
+        (outside (F.file files.old) (F.faults files.old) (F.faults files.new)) name.now))) }
+    ensures quiet { OnOk result (CountsStay (F.faults files.old) (F.faults files.new)) }
+    ensures counts { IfErr result
+        (parts.CountsStayBut (F.faults files.old) (F.faults files.new)) }
+    ensures kept { (other : List ℕ) → F.file files.new other ≡ F.file files.old other }
+{
+    let bytes = read_bytes(alloc, name, MOST_SCRIPT_BYTES, files)?;
+    let loaded = load_bytes(alloc, bytes.bytes())?;
+    Ok(loaded)
+}
+
+/// Loads a script.
+fn load_bytes(alloc: Global, script: &[u8]) -> Result<Loaded, Status>
+    ensures ok { IfOk result (λ loaded. Loads script.now loaded.base loaded.tables) }
+    ensures valid { IfOk result (λ loaded. AreValidTables loaded.base.catalog loaded.tables) }
+    ensures err { IfErr result (OrMemory (spec.IsRefusedBy script.now)) }
+{
+    match load(alloc, script) {
+        Ok(loaded) => Ok(loaded),
+        Err(LoadError::Fault(fault)) => Err(Status::ScriptRefused(fault)),
+        Err(LoadError::Memory) => Err(Status::Memory),
+    }
+}
+
+/// Reads the document's file, and answers it.
+fn answer_file<F: Files>(
+    alloc: Global,
+    name: &str,
+    loaded: &Loaded,
+    files: &mut F,
+) -> Result<Blob, Status>
+    ensures ok { IfOk result (parts.IsAnsweredBy (F.file files.old name.now)
+        loaded.now.base loaded.now.tables) }
+    ensures err { IfErr result (OrMemory (AreRefused (parts.answer_stages
+        (outside (F.file files.old) (F.faults files.old) (F.faults files.new))
+        name.now loaded.now.base loaded.now.tables))) }
+    ensures quiet { OnOk result (CountsStay (F.faults files.old) (F.faults files.new)) }
+    ensures counts { IfErr result
+        (parts.CountsStayBut (F.faults files.old) (F.faults files.new)) }
+    ensures kept { (other : List ℕ) → F.file files.new other ≡ F.file files.old other }
+{
+    let bytes = read_bytes(alloc, name, MOST_DOCUMENT_BYTES, files)?;
+    let text = answer_bytes(alloc, loaded, bytes.bytes())?;
+    Ok(text)
+}
+
+/// Answers a document.
+fn answer_bytes(alloc: Global, loaded: &Loaded, document: &[u8]) -> Result<Blob, Status>
+    ensures ok { IfOk result (IsAnswer loaded.now.base loaded.now.tables document.now) }
+    ensures err { IfErr result (OrMemory (Because (status_is.Unbuilt form_is.Document)
+        (IsUnbuilt loaded.now.base document.now))) }
+{
+    match answer_document(alloc, &loaded.base, &loaded.tables, document) {
+        Ok(text) => Ok(text),
+        Err(Unanswered::NotBuilt) => Err(Status::Unbuilt(Form::Document)),
+        Err(Unanswered::Memory) => Err(Status::Memory),
+    }
+}
+
+/// The file's bytes, where they aren't too many.
+fn read_bytes<F: Files>(
+    alloc: Global,
+    name: &str,
+    limit: usize,
+    files: &mut F,
+) -> Result<Blob, Status>
+    ensures ok { IfOk result (parts.IsRead (F.file files.old name.now) limit) }
+    ensures err { IfErr result (OrMemory (AreRefused (parts.read_stages
+        (outside (F.file files.old) (F.faults files.old) (F.faults files.new))
+        name.now limit))) }
+    ensures quiet { OnOk result (CountsStay (F.faults files.old) (F.faults files.new)) }
+    ensures counts { IfErr result
+        (parts.CountsStayBut (F.faults files.old) (F.faults files.new)) }
+    ensures kept { (other : List ℕ) → F.file files.new other ≡ F.file files.old other }
+{
+    match files.read_file(alloc, name, limit) {
+        Ok(bytes) => Ok(bytes),
+        Err(FileFault::Failed) => Err(Status::FileFault),
+        Err(FileFault::TooLarge) => Err(Status::TooLarge),
+        Err(FileFault::Memory(_)) => Err(Status::Memory),
+    }
+}
