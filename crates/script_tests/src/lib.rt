@@ -1,7 +1,9 @@
-//! Tests of the crates that read the parts of a script: tokens and comments.
+//! Tests of the crates that read scripts: tokens, comments and whole scripts.
 #![tactic(auto)]
 
 #[cfg(test)]
 mod comments;
+#[cfg(test)]
+mod scripts;
 #[cfg(test)]
 mod tokens;
