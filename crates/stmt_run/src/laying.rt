@@ -48,9 +48,11 @@ fn keep_first<'a>(
     ensures { OnOk result (map (λ r. r.now) list.new.items ≡
         take count (ordered order.now (map (λ r. r.now) list.old.items))) }
 {
-    if count <= PAGE {
-        *list = first_rows(alloc, list.as_slice(), order, count)?;
-        return Ok(());
+    if count < list.len() {
+        if count <= PAGE {
+            *list = first_rows(alloc, list.as_slice(), order, count)?;
+            return Ok(());
+        }
     }
     sort_rows(list, order)?;
     list.truncate(count);

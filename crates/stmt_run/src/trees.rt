@@ -65,7 +65,7 @@ fn take_trees(
     ensures taken { IfOk result (λ list. list ≡ take count trees.old) }
     ensures left { OnOk result (trees.new ≡ drop count trees.old) }
 {
-    let mut list = Vec::new(alloc);
+    let mut list = Vec::with_capacity(alloc, count)?;
     for _turn in 0..count {
         take_first(trees, &mut list)?;
     }
