@@ -154,12 +154,19 @@ CREATE TABLE t (a serial PRIMARY KEY, b text); INSERT INTO t (b) VALUES ('x'); I
 CREATE TABLE t (a integer NOT NULL, b integer, c varchar(1), d boolean UNIQUE); INSERT INTO t VALUES (NULL, 'x', 'yy', 1); => rows fault 1 at 1:102: b
 "##;
 
+fn put_error(line: &mut Vec<u8>, error: &LoadError) -> Result<(), Memory> {
+    match error {
+        LoadError::Fault(fault) => put_fault_line(line, fault),
+        LoadError::Memory => line.extend_from_slice(b"out of memory"),
+    }
+}
+
 fn line_of(alloc: Global, script: &str) -> Result<Vec<u8>, Memory> {
     let mut line = Vec::new(alloc);
-    match load(alloc, script.as_bytes()) {
-        Ok(_) => line.extend_from_slice(b"ok")?,
-        Err(LoadError::Fault(fault)) => put_fault_line(&mut line, &fault)?,
-        Err(LoadError::Memory) => line.extend_from_slice(b"out of memory")?,
+    let outcome = load(alloc, script.as_bytes());
+    match &outcome {
+        Ok(_loaded) => line.extend_from_slice(b"ok")?,
+        Err(error) => put_error(&mut line, error)?,
     }
     Ok(line)
 }
