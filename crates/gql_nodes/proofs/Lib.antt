@@ -1,0 +1,4 @@
+pub mod Closures
+pub mod FirstPlaces
+pub mod Firsts
+pub mod Listing
