@@ -1,0 +1,11 @@
+pub mod Arguments
+pub mod Body
+pub mod Chosen
+pub mod Coerced
+pub mod Coercions
+pub mod Given
+pub mod Inputs
+pub mod Leaves
+pub mod Listed
+pub mod Literals
+pub mod Spelled
