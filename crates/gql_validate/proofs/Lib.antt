@@ -1,0 +1,9 @@
+pub mod CannotMerge
+pub mod Least
+pub mod Members
+pub mod PairLists
+pub mod Placed
+pub mod Rows
+pub mod SameRows
+pub mod Spreading
+pub mod Steps

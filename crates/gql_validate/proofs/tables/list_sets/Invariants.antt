@@ -1,0 +1,7 @@
+use Rattle.std.proofs.Common.{◌≡◌, drop}
+use Rattle.gql_nodes.specs.Listed.{views}
+use Rattle.gql_validate.specs.Merged as spec
+use Rattle.gql_validate.proofs.tables.list_sets.Given as goal
+
+abbrev pub invariant-loop-place : goal.invariant-loop-place
+invariant-loop-place l = spec.put_sets (views l.nodes) l.lists.items l.place (views (drop l.place l.nodes)) ≡ spec.put_sets (views l.nodes) (spec.empty_lists l.nodes) 0 (views l.nodes)

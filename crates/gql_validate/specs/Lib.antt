@@ -1,0 +1,15 @@
+pub mod ArgumentNames
+pub mod ArgumentUniqueness
+pub mod ExecutableDefinitions
+pub mod FieldSelectionMerging
+pub mod FieldSelections
+pub mod LeafFieldSelections
+pub mod LoneAnonymousOperation
+pub mod Merged
+pub mod RequiredArguments
+pub mod SameLists
+pub mod SameValues
+pub mod SetPairs
+pub mod Shapes
+pub mod SingleRootField
+pub mod UniqueOperationNames
