@@ -1,0 +1,12 @@
+mod Runs
+mod Turns
+mod Digits
+mod Exact
+mod Utf8
+mod NumberExact
+mod TextExact
+mod ListExact
+mod Bounds
+mod CursorExact
+mod Decoded
+mod Written

@@ -1,0 +1,4 @@
+pub mod CursorText
+pub mod Marked
+pub mod Reader
+pub mod Reading
