@@ -1,0 +1,5 @@
+//! Tests of `cursor_text`.
+#![tactic(auto)]
+
+#[cfg(test)]
+mod cursors;

@@ -1,0 +1,14 @@
+mod Numbered
+mod Args
+mod FragmentLemmas
+mod Depth
+mod Collects
+mod Grown
+mod Steady
+mod WholeTrees
+mod WellFormed
+mod Same
+mod AskedApart
+mod Executes
+mod Queries
+mod Levels

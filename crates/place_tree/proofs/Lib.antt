@@ -1,0 +1,11 @@
+pub mod Lists
+pub mod Folds
+pub mod Signatures
+pub mod Compared
+pub mod Same
+pub mod Events
+pub mod WrittenLemmas
+pub mod Typed
+pub mod EventErrors
+pub mod Trees
+pub mod SpentLemmas

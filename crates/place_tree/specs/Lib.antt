@@ -1,0 +1,15 @@
+pub mod Same
+pub mod Fold
+pub mod Response
+pub mod Fields
+pub mod Cursors
+pub mod Arguments
+pub mod Fetch
+pub mod Exec
+pub mod Needs
+pub mod Events
+pub mod Written
+pub mod Typed
+pub mod Mutation
+pub mod Counting
+pub mod Spent

@@ -1,0 +1,4 @@
+pub mod Below
+pub mod Roots
+pub mod Pieces
+pub mod Whole

@@ -1,0 +1,11 @@
+//! The text of a response from its events, errors before data (GraphQL October 2021, section 7).
+#![tactic(auto)]
+
+mod errors;
+mod fault;
+pub mod laws;
+mod path;
+mod response;
+
+pub use fault::ResponseFault;
+pub use response::response_of;
