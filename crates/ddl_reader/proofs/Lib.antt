@@ -18,3 +18,6 @@ pub mod ResolvedRows
 pub mod ScriptTurns
 pub mod OneScript
 pub mod ScriptSentences
+pub mod FirstPlaces
+pub mod StopFaults
+pub mod NoMemory

@@ -17,7 +17,8 @@ use Rattle.ddl_reader.specs.declared.statement.Row.{Row}
 use Rattle.ddl_reader.specs.declared.statement.InsertStatement.{InsertStatement}
 use Rattle.ddl_reader.specs.declared.resolving.Destination.{Destination}
 use Rattle.ddl_reader.specs.Rows.{IsRowOf}
-use Rattle.ddl_reader.specs.Script.{below, row_columns, row_text, named_columns, columns_of, insert_fault, double_column, unknown_column, unknown_name, names_fault, first_fault, IsResolved}
+use Rattle.ddl_reader.specs.Script.{row_columns, row_text, named_columns, columns_of, insert_fault, double_column, unknown_column, unknown_name, names_fault, first_fault, IsResolved}
+use Rattle.ddl_reader.specs.Compact.{below}
 use Rattle.ddl_reader.specs.Destinations.{destination, IsDestination, columns_by, row_into, IsRowInto}
 use Rattle.ddl_reader.proofs.Pairs.{pairs_get, pairs_map, pairs_more}
 
@@ -138,7 +139,3 @@ module _ {A B : Type 0} (R : A → B → Type 0) (rows left new : List A) (row :
 
 pub backwards_end : {A B : Type 0} (R : A → B → Type 0) (rows left : List A) (made : List B) → left ≡ [] → ((before : List B) → EachPair R left before → EachPair R rows (before ++ reverse made)) → EachPair R rows (reverse made)
 backwards_end {A} R rows left made empty so_far = so_far [] (subst (λ (l : List A). EachPair R l []) (sym empty) tt)
-
-module _ {A : Type 0} (items left new : List A) (item : A) (made more : List A) (popped : left ≡ new ++ item ∷ []) (pushed : more ≡ made ++ item ∷ []) (so_far : left ++ reverse made ≡ items) where
-  pub reversed_more : new ++ reverse more ≡ items
-  reversed_more = ap (λ (l : List A). new ++ reverse l) pushed ∙ sym (reverse_more new made item) ∙ ap (λ (l : List A). l ++ reverse made) (sym popped) ∙ so_far

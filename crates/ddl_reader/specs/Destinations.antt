@@ -7,7 +7,7 @@ use Rattle.ddl_reader.specs.declared.resolving.Destination.{Destination}
 use Rattle.ddl_reader.specs.declared.script.RowText.{RowText}
 use Rattle.ddl_reader.specs.declared.statement.Row.{Row}
 use Rattle.ddl_reader.specs.declared.statement.InsertStatement.{InsertStatement}
-use Rattle.ddl_reader.specs.Script.{below}
+use Rattle.ddl_reader.specs.Compact.{below}
 
 -- the table at the place, and the INSERT's columns there
 abbrev pub destination : ℕ → TableDef → InsertStatement → Destination

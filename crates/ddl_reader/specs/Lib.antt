@@ -1,3 +1,4 @@
+pub mod Compact
 pub mod Rows
 pub mod Words
 pub mod Lexemes

@@ -28,6 +28,7 @@ use Rattle.ddl_reader.specs.Lexemes.{is_the, lexemes}
 use Rattle.ddl_reader.specs.Statements.{statement_with}
 use Rattle.ddl_reader.specs.Parts.{enum_part, table_parts, rule_part, comment_part, commented_by, target_pos, target_name}
 use Rattle.ddl_reader.specs.Stops.{stop_fault}
+use Rattle.ddl_reader.specs.Compact.{below}
 
 abbrev pub progress : CatalogParts → List InsertStatement → List Row → Progress
 progress c inserts rows = record { catalog = c; inserts = inserts; rows = rows }
@@ -181,11 +182,6 @@ first_fault c [] = None
 first_fault c (i ∷ inserts) = option_or (names_fault c i) (first_fault c inserts)
 
 -- ---- rows
-
--- the numbers below n
-abbrev pub below : ℕ → List ℕ
-below zero = []
-below (suc n) = below n ++ n ∷ []
 
 -- the places of the named columns, or of the table's first columns, as many as the row has values
 abbrev pub row_columns : TableDef → Option (List (List ℕ)) → ℕ → List ℕ

@@ -2,6 +2,7 @@
 -- fitted in the place of the stop is asked of the grammar: a text fits after a front where a statement that begins so
 -- doesn't stop before the text's end.
 use Rattle.std.specs.Prelude.{ℕ, ◌-◌, Bool, true, false, not, ◌&&◌, ◌||◌, ◌==◌, nat_lt, slice_get, unwrap_or, if◌then◌else◌, List, [], ◌∷◌, ◌++◌, length, take, drop, codes, Option, Some, None, Result, Ok, Err}
+use Rattle.pg_base.specs.Pos.{start}
 use Rattle.pg_base.specs.declared.pos.Pos.{Pos}
 use Rattle.pg_base.specs.declared.enum_def.EnumDef.{EnumDef}
 use Rattle.parse_rules.specs.Parser.{Outcome}
@@ -256,7 +257,8 @@ abbrev pub lexemes_before : Pos → List Lexeme → List Lexeme
 lexemes_before pos [] = []
 lexemes_before pos (l ∷ ls) = if stands_at l.pos pos then [] else l ∷ lexemes_before pos ls
 
--- Of a statement that stops before the rest. The lexemes never run out before a fault: the end is one of them.
+-- Of a statement that stops before the rest. The lexemes never run out before a fault, since the end is one of them:
+-- where none is left there is no place to name, and the fault is told at the start.
 abbrev pub stop_fault : List EnumDef → List Lexeme → List Lexeme → ScriptFault
-stop_fault enums ts [] = fault.Memory
+stop_fault enums ts [] = fault.Syntax start.pos
 stop_fault enums ts (stop ∷ rest) = fault_before enums (lexemes_before stop.pos ts) stop

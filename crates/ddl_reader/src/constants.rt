@@ -73,7 +73,7 @@ pub(crate) fn constant_of(alloc: Global, literal: &Literal) -> Result<Constant, 
     match literal {
         Literal::Number(digits) => Ok(integer_of(digits.bytes())),
         Literal::Str(text) => {
-            let copy = text.copy(alloc)?;
+            let copy = text.to_text(alloc)?;
             Ok(Constant::Text(copy))
         }
         Literal::True => Ok(Constant::Bool(true)),

@@ -8,6 +8,7 @@ ghost use Rattle.ddl_reader.specs.Scripts.{AreStatements, HaveFault};
 ghost use Rattle.ddl_reader.specs.Sentences.{StopsAt};
 ghost use Rattle.ddl_reader.specs.Statements.{statement_with};
 ghost use Rattle.ddl_reader.specs.declared.fault.ScriptFault.{ScriptFault};
+ghost use Rattle.ddl_reader.specs.declared.fault.ScriptFault.TheVariants as fault;
 ghost use Rattle.ddl_reader.specs.declared.lexeme.Lexeme.{Lexeme};
 ghost use Rattle.ddl_reader.specs.declared.reading.Progress.{Progress};
 ghost use Rattle.ddl_reader.specs.declared.script.Script.{Script};
@@ -58,6 +59,11 @@ pub fn text_has_one_fault()
 pub fn script_has_no_fault()
     ensures { (bytes : List ℕ) (s : Script) (f : ScriptFault) → IsScript bytes s
         → IsScriptFault bytes f → ⊥ }
+{}
+
+/// The fault of a text is never that memory ran out.
+pub fn fault_is_of_the_text()
+    ensures { (bytes : List ℕ) → IsScriptFault bytes fault.Memory → ⊥ }
 {}
 
 /// Reading more statements than there are lexemes changes nothing.

@@ -2,7 +2,9 @@
 #![tactic(auto)]
 
 mod adding;
+mod columns;
 mod comments;
+mod compact_text;
 mod constants;
 mod copies;
 mod fault;
@@ -28,6 +30,8 @@ mod types;
 mod whole;
 mod word;
 
+pub use columns::Columns;
+pub use compact_text::CompactText;
 pub use fault::ScriptFault;
 pub use reading::read_script;
 pub use script::{Literal, RowText, Script};

@@ -5,6 +5,7 @@ ghost use Rattle.parse_rules.specs.Parser.{Reads};
 ghost use Rattle.ddl_reader.specs.Reading as spec;
 ghost use Rattle.ddl_reader.specs.Trees as trees;
 
+use crate::compact_text::CompactText;
 use crate::lexeme::{Expected, Lexeme, is_number, is_sign, is_str, is_word};
 use crate::script::Literal;
 use crate::tokens::ScriptTokens;
@@ -36,27 +37,30 @@ fn read_negative(alloc: Global, tokens: &mut ScriptTokens<'_, '_>) -> Result<Lit
 {
     let digits = tokens.lexeme(alloc, Expected::Number)?;
     let text = negated(alloc, &digits.text)?;
-    Ok(Literal::Number(text))
+    let digits = CompactText::of(alloc, text)?;
+    Ok(Literal::Number(digits))
 }
 
 /// The literal of one token.
-fn literal_of(first: Lexeme) -> Literal
-    ensures { result ≡ trees.literal_of first }
+fn literal_of(alloc: Global, first: Lexeme) -> Result<Literal, Memory>
+    ensures { IfOk result (λ literal. literal ≡ trees.literal_of first) }
 {
     let Lexeme { kind, text, pos: _ } = first;
     if is_number(kind) {
-        return Literal::Number(text);
+        let digits = CompactText::of(alloc, text)?;
+        return Ok(Literal::Number(digits));
     }
     if is_str(kind) {
-        return Literal::Str(text);
+        let string = CompactText::of(alloc, text)?;
+        return Ok(Literal::Str(string));
     }
     if is_word(kind, Word::True) {
-        return Literal::True;
+        return Ok(Literal::True);
     }
     if is_word(kind, Word::False) {
-        return Literal::False;
+        return Ok(Literal::False);
     }
-    Literal::Null
+    Ok(Literal::Null)
 }
 
 #[tactic(auto, unfolding(crate::specs::Reading::literal))]
@@ -70,7 +74,8 @@ pub(crate) fn read_literal(
     if is_sign(first.kind, b'-') {
         return read_negative(alloc, tokens);
     }
-    Ok(literal_of(first))
+    let literal = literal_of(alloc, first)?;
+    Ok(literal)
 }
 
 #[tactic(auto, unfolding(crate::specs::Reading::default_value))]

@@ -8,11 +8,12 @@ ghost use Rattle.pg_catalog.specs.Names.{column_names, places_of};
 ghost use Rattle.ddl_reader.specs.Script as spec;
 ghost use Rattle.ddl_reader.specs.Destinations as kept;
 
+use crate::columns::Columns;
 use crate::fault::ScriptFault;
 use crate::known::{Known, first_double, names_in};
 use crate::script::RowText;
 use crate::statement::{InsertStatement, Row};
-use pg_base::{Memory, TableDef, Text};
+use pg_base::{Memory, Sequence, TableDef, Text};
 use pg_catalog::{CatalogFault, Growing};
 use sqlite_items::{Items, at};
 use std::alloc::{AllocError, Global};
@@ -22,7 +23,7 @@ use std::alloc::{AllocError, Global};
 pub(crate) struct Destination {
     table: u32,
     width: u32,
-    columns: Option<Items<u32>>,
+    columns: Option<Columns>,
 }
 
 const DOUBLE_COLUMN: u8 = 2;
@@ -87,7 +88,8 @@ fn look_up_columns(
         let fault = insert_fault(alloc, UNKNOWN_COLUMN, insert, name)?;
         return Err(fault);
     }
-    let columns = known.places(alloc, names.as_slice())?;
+    let places = known.places(alloc, names.as_slice())?;
+    let columns = Columns::named(alloc, places)?;
     Ok(Destination {
         table: place,
         width,
@@ -153,36 +155,25 @@ fn look_up_all(
     Ok(found)
 }
 
-/// The first places.
-fn first_places(alloc: Global, count: u32) -> Result<Items<u32>, Memory>
-    ensures { IfOk result (λ places. places ≡ spec.below count) }
-{
-    let mut places = Items::new(alloc);
-    for place in 0..count {
-        places.push(place)?;
-    }
-    Ok(places)
-}
-
 /// The columns of a row of this many values: those that the INSERT names, or the table's first ones.
-fn columns_for(alloc: Global, into: &Destination, values: usize) -> Result<Items<u32>, Memory>
+fn columns_for(into: &Destination, values: usize) -> Result<Columns, Memory>
     ensures { IfOk result (λ columns. columns ≡ kept.columns_into into.now values) }
 {
     match &into.columns {
-        Some(columns) => Items::from_slice(alloc, columns.as_slice()),
-        None => first_places(alloc, values.min(into.width as usize) as u32),
+        Some(columns) => columns.share(),
+        None => Ok(Columns::first(values.min(into.width as usize) as u32)),
     }
 }
 
 /// A row, with the places of its table and columns.
-fn row_text(alloc: Global, inserts: &[Destination], row: Row) -> Result<RowText, Memory>
+fn row_text(inserts: &[Destination], row: Row) -> Result<RowText, Memory>
     ensures { IfOk result (kept.IsRowInto inserts.now row) }
 {
     let Row { pos, insert, cells } = row;
     let Some(into) = at(inserts, insert) else {
         return Err(AllocError);
     };
-    let columns = columns_for(alloc, into, cells.len())?;
+    let columns = columns_for(into, cells.len())?;
     Ok(RowText {
         pos,
         table: into.table,
@@ -196,28 +187,25 @@ fn rows_backwards(
     alloc: Global,
     inserts: &[Destination],
     rows: Items<Row>,
-) -> Result<Items<RowText>, Memory>
+) -> Result<Sequence<RowText>, Memory>
     ensures { IfOk result (λ made. EachPair (kept.IsRowInto inserts.now) rows (reverse made)) }
 {
     let mut left = rows;
-    let mut made = Items::new(alloc);
+    let mut made = Sequence::new(alloc);
     while let Some(row) = left.pop() {
-        let text = row_text(alloc, inserts, row)?;
+        let text = row_text(inserts, row)?;
         made.push(text)?;
     }
     Ok(made)
 }
 
-/// The items from the last on.
-fn reversed(alloc: Global, items: Items<RowText>) -> Result<Items<RowText>, Memory>
-    ensures { IfOk result (λ other. other ≡ reverse items) }
+/// The rows from the last on, in the same place.
+fn reversed(rows: Sequence<RowText>) -> Sequence<RowText>
+    ensures { result ≡ reverse rows }
 {
-    let mut left = items;
-    let mut other = Items::new(alloc);
-    while let Some(item) = left.pop() {
-        other.push(item)?;
-    }
-    Ok(other)
+    let mut rows = rows.into_vec();
+    rows.reverse();
+    Sequence::of(rows)
 }
 
 /// The rows, with the places of their tables and columns.
@@ -226,13 +214,12 @@ pub(crate) fn resolved_rows(
     catalog: &Growing,
     inserts: &[InsertStatement],
     rows: Items<Row>,
-) -> Result<Items<RowText>, ScriptFault>
+) -> Result<Sequence<RowText>, ScriptFault>
     ensures fault { spec.Tells (spec.first_fault catalog.now inserts.now) result }
     ensures rows { IfOk result
         (EachPair (spec.IsResolved catalog.now inserts.now) rows) }
 {
     let found = look_up_all(alloc, catalog, inserts)?;
     let backwards = rows_backwards(alloc, found.as_slice(), rows)?;
-    let made = reversed(alloc, backwards)?;
-    Ok(made)
+    Ok(reversed(backwards))
 }

@@ -10,6 +10,7 @@ use crate::script::Literal;
 use crate::statement::Row;
 use crate::tokens::ScriptTokens;
 use parse_rules::{ReadError, TokenStream};
+use pg_base::Sequence;
 use sqlite_items::Items;
 use std::alloc::Global;
 
@@ -17,10 +18,10 @@ use std::alloc::Global;
 fn read_values(
     alloc: Global,
     tokens: &mut ScriptTokens<'_, '_>,
-) -> Result<Items<Literal>, ReadError>
+) -> Result<Sequence<Literal>, ReadError>
     ensures { Reads (spec.values tokens.old) result tokens.new }
 {
-    let mut found = Items::new(alloc);
+    let mut found = Sequence::new(alloc);
     found.push(read_value(alloc, tokens)?)?;
     for _turn in 0..tokens.left_at_most() {
         if !tokens.eat(Expected::Sign(b',')) {
@@ -29,6 +30,15 @@ fn read_values(
         found.push(read_value(alloc, tokens)?)?;
     }
     Ok(found)
+}
+
+/// The same values, in no more room than they take.
+fn fitted(values: Sequence<Literal>) -> Items<Literal>
+    ensures { result ≡ values }
+{
+    let mut values = values.into_vec();
+    values.shrink_to_fit();
+    Items::from_vec(values)
 }
 
 /// A row of the INSERT of this number.
@@ -41,12 +51,12 @@ fn read_row(
     ensures { Reads (spec.row insert tokens.old) result tokens.new }
 {
     let first = tokens.expect(Expected::Sign(b'('))?;
-    let cells = read_values(alloc, tokens)?;
+    let values = read_values(alloc, tokens)?;
     tokens.expect(Expected::Sign(b')'))?;
     Ok(Row {
         pos: first.pos(),
         insert,
-        cells,
+        cells: fitted(values),
     })
 }
 

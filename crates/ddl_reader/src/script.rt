@@ -1,6 +1,8 @@
 //! What a script gives: a catalog, and the rows that it puts into the catalog's tables.
 
-use pg_base::{Catalog, Pos, Text};
+use crate::columns::Columns;
+use crate::compact_text::CompactText;
+use pg_base::{Catalog, Pos, Sequence};
 use sqlite_items::Items;
 
 /// What a script gives.
@@ -8,7 +10,7 @@ use sqlite_items::Items;
 pub struct Script {
     pub catalog: Catalog,
     /// The rows of all INSERTs, in their order.
-    pub rows: Items<RowText>,
+    pub rows: Sequence<RowText>,
 }
 
 /// A row of an INSERT as it is written, its names looked up in the whole catalog.
@@ -20,7 +22,7 @@ pub struct RowText {
     pub table: u32,
     /// The places of its columns. Without a column list these are the table's first columns, as many as the row has
     /// values, or all where it has more: then a row with another number of values has too many or too few.
-    pub columns: Items<u32>,
+    pub columns: Columns,
     /// Its values.
     pub cells: Items<Literal>,
 }
@@ -29,9 +31,9 @@ pub struct RowText {
 #[derive(Drop)]
 pub enum Literal {
     /// Digits, with a `-` before them where one stands there.
-    Number(Text),
+    Number(CompactText),
     /// A string without its quotes and escapes.
-    Str(Text),
+    Str(CompactText),
     True,
     False,
     Null,

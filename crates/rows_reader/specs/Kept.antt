@@ -7,7 +7,14 @@ use Rattle.pg_base.specs.declared.table_def.TableDef.{TableDef}
 use Rattle.rel_model.specs.declared.tables.Row.{Row}
 use Rattle.rel_model.specs.declared.tables.TableRows.{TableRows}
 use Rattle.rel_model.specs.Tables.{cells_at}
+use Rattle.rows_reader.specs.declared.key.KeyCells.{KeyCells}
+use Rattle.rows_reader.specs.declared.key.KeyCells.TheVariants as cells_of
 use Rattle.rows_reader.specs.Keys.{stands, keys_at}
+
+-- the cells of a key
+abbrev pub cells_in : KeyCells → List Cell
+cells_in (cells_of.One value) = value ∷ []
+cells_in (cells_of.Several cells) = cells.items
 
 -- columns, and the cells that rows have in them
 pub record Index : Type 0 where

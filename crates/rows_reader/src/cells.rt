@@ -10,12 +10,12 @@ ghost use Rattle.rows_reader.specs.declared.values.Check.TheVariants as check;
 
 use crate::numbers::bigint_number;
 use crate::values::{case_of, value_at};
-use ddl_reader::{Literal, RowText};
-use pg_base::{Cell, ColumnDef, EnumDef, Kind, Memory, Text};
+use ddl_reader::{CompactText, Literal, RowText};
+use pg_base::{Cell, ColumnDef, EnumDef, Kind, Memory};
 use sqlite_items::Items;
 use std::alloc::Global;
 
-fn cell_of_number(text: &Text) -> Cell
+fn cell_of_number(text: &CompactText) -> Cell
     ensures { result ≡ spec.cell_of_number text.now }
 {
     match bigint_number(text) {
@@ -24,7 +24,7 @@ fn cell_of_number(text: &Text) -> Cell
     }
 }
 
-fn cell_of_label(enums: &[EnumDef], place: u32, label: &Text) -> Cell
+fn cell_of_label(enums: &[EnumDef], place: u32, label: &CompactText) -> Cell
     requires { Each IsValidEnum enums.now }
     ensures { result ≡ spec.cell_of_label enums.now place label.now }
 {
@@ -34,13 +34,18 @@ fn cell_of_label(enums: &[EnumDef], place: u32, label: &Text) -> Cell
     }
 }
 
-fn cell_of_string(alloc: Global, enums: &[EnumDef], kind: Kind, text: &Text) -> Result<Cell, Memory>
+fn cell_of_string(
+    alloc: Global,
+    enums: &[EnumDef],
+    kind: Kind,
+    text: &CompactText,
+) -> Result<Cell, Memory>
     requires { Each IsValidEnum enums.now }
     ensures { IfOk result (λ cell. cell ≡ spec.cell_of_string enums.now kind text.now) }
 {
     match kind {
-        Kind::Text => Ok(Cell::Text(text.copy(alloc)?)),
-        Kind::Varchar(_) => Ok(Cell::Text(text.copy(alloc)?)),
+        Kind::Text => Ok(Cell::Text(text.to_text(alloc)?)),
+        Kind::Varchar(_) => Ok(Cell::Text(text.to_text(alloc)?)),
         Kind::Int => Ok(Cell::Null),
         Kind::BigInt => Ok(Cell::Null),
         Kind::Bool => Ok(Cell::Null),

@@ -1,13 +1,14 @@
 //! The cells that rows have in certain columns, found in constant time.
 
-ghost use Rattle.std.specs.Prelude.{◌≡◌, ◌++◌, ◌∷◌, [], map, length, IfOk, OnOk, IsTrue};
+ghost use Rattle.std.specs.Prelude.{◌≡◌, [], map, length, IfOk, OnOk, IsTrue};
 ghost use Rattle.pg_base.specs.Lists.{Each};
 ghost use Rattle.rel_model.specs.Tables.{cells_at};
 ghost use Rattle.rows_reader.specs.Keys as spec;
 ghost use Rattle.rows_reader.specs.Kept.{Index, IsIndexOf, grown};
 
+use crate::key::Key;
 use indexmap::IndexSet;
-use pg_base::{Cell, Memory, Sequence};
+use pg_base::{Cell, Memory};
 use rel_model::{Row, cell_at, is_null};
 use sqlite_items::Items;
 use std::alloc::Global;
@@ -17,7 +18,7 @@ use std::marker::Model;
 #[derive(Drop)]
 pub(crate) struct KeyIndex {
     places: Items<u32>,
-    keys: IndexSet<Sequence<Cell>>,
+    keys: IndexSet<Key>,
 }
 
 impl Model for KeyIndex {
@@ -28,19 +29,28 @@ impl Model for KeyIndex {
     ghost view = { λ index. record { places = index.places; keys = index.keys.keys } };
 }
 
-/// The cells at these places, a null where there is none.
-pub(crate) fn key_of(
-    alloc: Global,
-    places: &[u32],
-    cells: &[Cell],
-) -> Result<Sequence<Cell>, Memory>
+/// The cells at several places, a null where there is none.
+fn key_of_several(alloc: Global, places: &[u32], cells: &[Cell]) -> Result<Key, Memory>
     ensures { IfOk result (λ key. key ≡ cells_at places.now cells.now) }
 {
     let mut key = Vec::with_capacity(alloc, places.len())?;
     for place in places {
         key.push(cell_at(alloc, cells, *place)?)?;
     }
-    Ok(Sequence::of(key))
+    Ok(Key::several(key))
+}
+
+/// The cells at these places, a null where there is none.
+pub(crate) fn key_of(alloc: Global, places: &[u32], cells: &[Cell]) -> Result<Key, Memory>
+    ensures { IfOk result (λ key. key ≡ cells_at places.now cells.now) }
+{
+    match places {
+        [place] => {
+            let cell = cell_at(alloc, cells, *place)?;
+            Ok(Key::one(cell))
+        }
+        _ => key_of_several(alloc, places, cells),
+    }
 }
 
 pub(crate) fn has_null(key: &[Cell]) -> bool
@@ -66,7 +76,7 @@ impl KeyIndex {
         self.places.as_slice() == places
     }
 
-    fn has(&self, key: &Sequence<Cell>) -> bool
+    fn has(&self, key: &Key) -> bool
         ensures { result ≡ spec.stands self.now.keys key.now }
     {
         self.keys.contains(key)
@@ -92,7 +102,7 @@ fn add_all(alloc: Global, indexes: &mut Vec<KeyIndex>, cells: &[Cell]) -> Result
 }
 
 /// Looks through the rows themselves.
-fn scan(alloc: Global, rows: &[Row], places: &[u32], key: &Sequence<Cell>) -> Result<bool, Memory>
+fn scan(alloc: Global, rows: &[Row], places: &[u32], key: &Key) -> Result<bool, Memory>
     ensures { IfOk result
         (λ found. found ≡ spec.stands (spec.keys_at places.now rows.now) key.now) }
 {
@@ -110,7 +120,7 @@ fn look_up(
     indexes: &[KeyIndex],
     rows: &[Row],
     places: &[u32],
-    key: &Sequence<Cell>,
+    key: &Key,
 ) -> Result<bool, Memory>
     requires { Each (IsIndexOf rows.now) indexes.now }
     ensures { IfOk result
@@ -173,7 +183,7 @@ impl Indexes {
         alloc: Global,
         rows: &[Row],
         places: &[u32],
-        key: &Sequence<Cell>,
+        key: &Key,
     ) -> Result<bool, Memory>
         requires { Each (IsIndexOf rows.now) self.now }
         ensures { IfOk result

@@ -5,6 +5,7 @@ mod cells;
 mod fault;
 mod faults;
 mod index;
+mod key;
 pub mod laws;
 mod lists;
 mod loading;

@@ -3,7 +3,7 @@
 ghost use Rattle.std.specs.Prelude.{◌≡◌};
 ghost use Rattle.rows_reader.specs.Cells as spec;
 
-use pg_base::Text;
+use ddl_reader::CompactText;
 
 fn parse_int(text: &str) -> Option<i64>
     ensures { result ≡ spec.int_number text.now }
@@ -24,7 +24,7 @@ fn parse_bigint(text: &str) -> Option<i64>
 }
 
 /// The number of 32 bits that a text writes.
-pub(crate) fn int_number(text: &Text) -> Option<i64>
+pub(crate) fn int_number(text: &CompactText) -> Option<i64>
     ensures { result ≡ spec.int_number text.now }
 {
     match str::from_utf8(text.bytes()) {
@@ -34,7 +34,7 @@ pub(crate) fn int_number(text: &Text) -> Option<i64>
 }
 
 /// The number of 64 bits that a text writes.
-pub(crate) fn bigint_number(text: &Text) -> Option<i64>
+pub(crate) fn bigint_number(text: &CompactText) -> Option<i64>
     ensures { result ≡ spec.bigint_number text.now }
 {
     match str::from_utf8(text.bytes()) {

@@ -4,10 +4,9 @@ ghost use Rattle.std.specs.Str.{IsUtf8};
 ghost use Rattle.pg_base.specs.Lists.{Each};
 ghost use Rattle.rows_reader.specs.Texts.{IsTextLiteral, HasTexts};
 
-use ddl_reader::{Literal, RowText};
-use pg_base::Text;
+use ddl_reader::{CompactText, Literal, RowText};
 
-fn know_text(text: &Text)
+fn know_text(text: &CompactText)
     ensures { IsUtf8 text.now }
 {
     let _ = text.bytes();

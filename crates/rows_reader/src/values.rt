@@ -1,6 +1,6 @@
 //! Values as they are written, against the columns that they go into.
 
-ghost use Rattle.std.specs.Prelude.{◌≡◌, ◌<◌, length, position, slice_get, IfSome, pos, ◌==◌};
+ghost use Rattle.std.specs.Prelude.{◌≡◌, ◌<◌, length, position, slice_get, IfSome, pos};
 ghost use Rattle.std.specs.Option.{option_copied};
 ghost use Rattle.std.specs.Str.{chars, bytes_eq};
 ghost use Rattle.ddl_reader.specs.declared.script.Literal.TheVariants as literal;
@@ -10,7 +10,7 @@ ghost use Rattle.rows_reader.specs.Rows.{value_at};
 ghost use Rattle.rows_reader.specs.Faults.{fails};
 
 use crate::numbers::{bigint_number, int_number};
-use ddl_reader::{Literal, RowText};
+use ddl_reader::{CompactText, Literal, RowText};
 use pg_base::limits::MOST_TEXT_BYTES;
 use pg_base::{ColumnDef, EnumDef, Kind, Text};
 use sqlite_items::at;
@@ -31,16 +31,10 @@ pub(crate) fn value_at<'a>(row: &'a RowText, place: usize, default: &'a Literal)
     requires { default.now ≡ literal.Default }
     ensures { result.now ≡ value_at row.now place }
 {
-    match place_in(row.columns.as_slice(), place) {
+    match row.columns.find(place) {
         Some(i) => row.cells.as_slice().get(i).unwrap_or(default),
         None => default,
     }
-}
-
-fn place_in(columns: &[u32], place: usize) -> Option<usize>
-    ensures { result ≡ position (λ column. column == place) columns.now }
-{
-    columns.iter().position(|column| *column as usize == place)
 }
 
 fn is_int(literal: &Literal) -> bool
@@ -143,15 +137,15 @@ fn is_bad(column: &ColumnDef, counter: i64, literal: &Literal) -> bool
 }
 
 /// The place of a label among those of an enum.
-fn place_of(cases: &[Text], label: &Text) -> Option<usize>
+fn place_of(cases: &[Text], label: &CompactText) -> Option<usize>
     ensures value { result ≡ position (bytes_eq label.now) cases.now }
     ensures within { IfSome result (λ place. place < length cases.now) }
 {
-    cases.iter().position(|case| *label == *case)
+    cases.iter().position(|case| label.bytes() == case.bytes())
 }
 
 /// The place of a label among those of the enum at a place.
-pub(crate) fn case_of(enums: &[EnumDef], place: u32, label: &Text) -> Option<usize>
+pub(crate) fn case_of(enums: &[EnumDef], place: u32, label: &CompactText) -> Option<usize>
     ensures { result ≡ spec.case_of enums.now place label.now }
 {
     match at(enums, place as usize) {
@@ -160,7 +154,7 @@ pub(crate) fn case_of(enums: &[EnumDef], place: u32, label: &Text) -> Option<usi
     }
 }
 
-fn lacks_case(enums: &[EnumDef], kind: Kind, text: &Text) -> bool
+fn lacks_case(enums: &[EnumDef], kind: Kind, text: &CompactText) -> bool
     ensures { result ≡ spec.lacks_case enums.now kind text.now }
 {
     match kind {
@@ -193,7 +187,7 @@ fn chars_in(text: &str) -> usize
     text.chars().count()
 }
 
-fn char_count(text: &Text) -> usize
+fn char_count(text: &CompactText) -> usize
     ensures { result ≡ length (chars text.now) }
 {
     match str::from_utf8(text.bytes()) {
@@ -202,7 +196,7 @@ fn char_count(text: &Text) -> usize
     }
 }
 
-fn passes_length(kind: Kind, text: &Text) -> bool
+fn passes_length(kind: Kind, text: &CompactText) -> bool
     ensures { result ≡ spec.passes_length kind text.now }
 {
     match kind {

@@ -11,5 +11,5 @@ pub returns-clause-rows : goal.returns-clause-rows
 returns-clause-rows c =
     let found = c.in_ok-found.found in
     let here = subst (λ (l : List Destination). EachPair (IsRowInto l) c.args.rows (reverse c.in_ok-backwards.backwards)) c.as_slice.ensures c.in_ok-backwards.ensures in
-    rows_resolved c.args.catalog.now c.args.inserts.now found c.in_ok-found.ensures.found c.args.rows c.in_ok-made.made
-    (subst (λ (l : List RowText). EachPair (IsRowInto found) c.args.rows l) (sym c.in_ok-made.ensures) here)
+    rows_resolved c.args.catalog.now c.args.inserts.now found c.in_ok-found.ensures.found c.args.rows c.reversed.result
+    (subst (λ (l : List RowText). EachPair (IsRowInto found) c.args.rows l) (sym c.reversed.ensures) here)
