@@ -187,16 +187,16 @@ module _ (nodes : List At) where
   in_starts : (set : ℕ) → set < length nodes → Deep set → IsIn (starts nodes) (pair set set)
   in_starts set lt d = subst (λ s. IsIn (starts nodes) (pair s s)) (sym (zero_more set)) (in_starts_from 0 nodes set lt (subst Deep (zero_more set) d))
 
-  record Start (bound : ℕ) (p : Pair) : Type 0 where
-    set : ℕ
-    within : set < bound
-    is : pair set set ≡ p
+  pub record Start (bound : ℕ) (p : Pair) : Type 0 where
+    pub set : ℕ
+    pub within : set < bound
+    pub is : pair set set ≡ p
 
   from_starts_by : (place : ℕ) (x : At) (rest : List At) (p : Pair) → (IsIn (starts_from nodes (place + 1) rest) p → Start ((place + 1) + length rest) p) → IsIn (when (is_deep nodes place) place place) p ⊎ IsIn (starts_from nodes (place + 1) rest) p → Start (place + length (x ∷ rest)) p
   from_starts_by place x rest p go (inl a) = let w = from_when (is_deep nodes place) place place p a in record { set = place; within = omega arith; is = w.is }
   from_starts_by place x rest p go (inr b) = let s = go b in let lt : s.set < (place + 1) + length rest = s.within in record { set = s.set; within = omega arith; is = s.is }
 
-  from_starts : (place : ℕ) (rest : List At) (p : Pair) → IsIn (starts_from nodes place rest) p → Start (place + length rest) p
+  pub from_starts : (place : ℕ) (rest : List At) (p : Pair) → IsIn (starts_from nodes place rest) p → Start (place + length rest) p
   from_starts place [] p h = absurd h
   from_starts place (x ∷ rest) p h = from_starts_by place x rest p (from_starts (place + 1) rest p) (in-either (when (is_deep nodes place) place place) (starts_from nodes (place + 1) rest) p h)
 

@@ -1,9 +1,13 @@
+pub mod Alike
 pub mod CannotMerge
+pub mod Joined
 pub mod Least
 pub mod Members
 pub mod PairLists
+pub mod Peaceful
 pub mod Placed
 pub mod Rows
 pub mod SameRows
 pub mod Spreading
 pub mod Steps
+pub mod Told

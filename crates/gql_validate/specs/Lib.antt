@@ -3,9 +3,11 @@ pub mod ArgumentUniqueness
 pub mod ExecutableDefinitions
 pub mod FieldSelectionMerging
 pub mod FieldSelections
+pub mod JoinedSets
 pub mod LeafFieldSelections
 pub mod LoneAnonymousOperation
 pub mod Merged
+pub mod Met
 pub mod RequiredArguments
 pub mod SameLists
 pub mod SameValues

@@ -7,6 +7,7 @@ ghost use Rattle.gql_nodes.specs.Rules.{IsFound};
 ghost use Rattle.gql_validate.specs.FieldSelectionMerging.{Breaks};
 ghost use Rattle.gql_validate.specs.Merged as spec;
 
+use crate::joined_sets::all_merge;
 use crate::paired_fields::{differ, meet};
 use crate::pairs::Pair;
 use crate::set_graph::{SetGraph, set_closure};
@@ -28,7 +29,8 @@ fn is_bad(
     ensures { IfOk result (λ bad. bad
         ≡ spec.is_bad (views graph.now.nodes.now) graph.now.tables spoiled.now.keys p) }
 {
-    if differ(graph.nodes, p.first, p.second) {
+    let differ = differ(alloc, graph.nodes, p.first, p.second)?;
+    if differ {
         return Ok(true);
     }
     let mut due = Vec::new(alloc);
@@ -179,20 +181,32 @@ fn least_below(
     Ok(made)
 }
 
-/// The least place of a field that can't merge with an earlier one.
-fn least_place(alloc: Global, nodes: &[At<'_>]) -> Result<Option<usize>, Memory>
+/// The least place of a field that can't merge with an earlier one, by all pairs of sets.
+fn least_by_pairs(alloc: Global, nodes: &[At<'_>]) -> Result<Option<usize>, Memory>
     ensures { IfOk result (λ made. spec.IsLeastBreak (views nodes.now) made) }
 {
     let tables = tables_of(alloc, nodes)?;
     let graph = SetGraph { nodes, tables };
     let found = set_closure(alloc, &graph)?;
     let mut clashing = IndexSet::new(alloc);
-    put_clashes(&graph, found.as_slice(), &mut clashing)?;
+    put_clashes(alloc, &graph, found.as_slice(), &mut clashing)?;
     if clashing.len() == 0 {
         return Ok(None);
     }
     let made = least_below(alloc, &graph, found.as_slice(), clashing)?;
     Ok(made)
+}
+
+/// The least place of a field that can't merge with an earlier one. Where a first look tells that there is none, pairs
+/// of sets aren't gone through.
+fn least_place(alloc: Global, nodes: &[At<'_>]) -> Result<Option<usize>, Memory>
+    ensures { IfOk result (λ made. spec.IsLeastBreak (views nodes.now) made) }
+{
+    if all_merge(alloc, nodes)? {
+        return Ok(None);
+    }
+    let least = least_by_pairs(alloc, nodes)?;
+    Ok(least)
 }
 
 fn position_of_place(nodes: &[At<'_>], place: usize) -> Option<Pos>

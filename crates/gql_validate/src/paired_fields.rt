@@ -1,6 +1,6 @@
 //! Two fields, by their places in the list of nodes: whether they meet, and whether they differ.
 
-ghost use Rattle.std.specs.Prelude.{◌≡◌, option_map};
+ghost use Rattle.std.specs.Prelude.{◌≡◌, option_map, IfOk};
 ghost use Rattle.gql_nodes.specs.Listed.{view, views};
 ghost use Rattle.gql_validate.specs.FieldSelectionMerging as spec;
 ghost use Rattle.gql_validate.specs.Merged.{field_view};
@@ -8,13 +8,14 @@ ghost use Rattle.gql_validate.specs.Merged.{field_view};
 use crate::same_values::are_same_arguments;
 use gql_nodes::{At, Node};
 use gql_reader::Field;
-use pg_base::Text;
+use pg_base::{Memory, Text};
+use std::alloc::Global;
 
 /// A field on its parent type.
 #[derive(Clone, Copy)]
 pub(crate) struct FieldOn<'a> {
-    parent: u32,
-    field: &'a Field,
+    pub parent: u32,
+    pub field: &'a Field,
 }
 
 fn on_parent(parent: Option<u32>, field: &Field) -> Option<FieldOn<'_>>
@@ -26,7 +27,8 @@ fn on_parent(parent: Option<u32>, field: &Field) -> Option<FieldOn<'_>>
     }
 }
 
-fn field_on<'a>(node: &Node<'a>) -> Option<FieldOn<'a>>
+/// The field that a node is, if it stands on a known parent type.
+pub(crate) fn field_on<'a>(node: &Node<'a>) -> Option<FieldOn<'a>>
     ensures { option_map field_view result ≡ spec.field_on (view node.now) }
 {
     match node {
@@ -42,7 +44,7 @@ fn field_on<'a>(node: &Node<'a>) -> Option<FieldOn<'a>>
     }
 }
 
-fn field_at<'a>(nodes: &[At<'a>], place: usize) -> Option<FieldOn<'a>>
+pub(crate) fn field_at<'a>(nodes: &[At<'a>], place: usize) -> Option<FieldOn<'a>>
     ensures { option_map field_view result ≡ spec.field_at (views nodes.now) place }
 {
     match nodes.get(place) {
@@ -51,7 +53,7 @@ fn field_at<'a>(nodes: &[At<'a>], place: usize) -> Option<FieldOn<'a>>
     }
 }
 
-fn response_key(field: &Field) -> &Text
+pub(crate) fn response_key(field: &Field) -> &Text
     ensures { result.now ≡ spec.response_key field.now }
 {
     match &field.alias {
@@ -70,20 +72,24 @@ fn share_key(f: &FieldOn<'_>, g: &FieldOn<'_>) -> bool
     }
 }
 
-fn are_alike(f: &Field, g: &Field) -> bool
-    ensures { result ≡ spec.are_alike f.now g.now }
+/// Whether the names and the arguments are the same.
+pub(crate) fn are_alike(alloc: Global, f: &Field, g: &Field) -> Result<bool, Memory>
+    ensures { IfOk result (λ alike. alike ≡ spec.are_alike f.now g.now) }
 {
     if f.name == g.name {
-        are_same_arguments(f.arguments.as_slice(), g.arguments.as_slice())
+        let same = are_same_arguments(alloc, f.arguments.as_slice(), g.arguments.as_slice())?;
+        Ok(same)
     } else {
-        false
+        Ok(false)
     }
 }
 
-fn are_unlike(f: &FieldOn<'_>, g: &FieldOn<'_>) -> bool
-    ensures { result ≡ spec.are_unlike (field_view f.now) (field_view g.now) }
+fn are_unlike(alloc: Global, f: &FieldOn<'_>, g: &FieldOn<'_>) -> Result<bool, Memory>
+    ensures { IfOk result (λ unlike. unlike
+        ≡ spec.are_unlike (field_view f.now) (field_view g.now)) }
 {
-    !are_alike(f.field, g.field)
+    let alike = are_alike(alloc, f.field, g.field)?;
+    Ok(!alike)
 }
 
 fn both_share(f: Option<FieldOn<'_>>, g: Option<FieldOn<'_>>) -> bool
@@ -99,15 +105,22 @@ fn both_share(f: Option<FieldOn<'_>>, g: Option<FieldOn<'_>>) -> bool
     }
 }
 
-fn both_unlike(f: Option<FieldOn<'_>>, g: Option<FieldOn<'_>>) -> bool
-    ensures { result ≡ spec.both spec.are_unlike
-        (option_map field_view f.entry) (option_map field_view g.entry) }
+fn both_unlike(
+    alloc: Global,
+    f: Option<FieldOn<'_>>,
+    g: Option<FieldOn<'_>>,
+) -> Result<bool, Memory>
+    ensures { IfOk result (λ unlike. unlike ≡ spec.both spec.are_unlike
+        (option_map field_view f.entry) (option_map field_view g.entry)) }
 {
     match &f {
-        None => false,
+        None => Ok(false),
         Some(first) => match &g {
-            None => false,
-            Some(second) => are_unlike(first, second),
+            None => Ok(false),
+            Some(second) => {
+                let unlike = are_unlike(alloc, first, second)?;
+                Ok(unlike)
+            }
         },
     }
 }
@@ -124,8 +137,9 @@ pub(crate) fn meet(nodes: &[At<'_>], f: usize, g: usize) -> bool
 }
 
 /// Whether the two fields have other names or other arguments.
-pub(crate) fn differ(nodes: &[At<'_>], f: usize, g: usize) -> bool
-    ensures { result ≡ spec.differ (views nodes.now) f g }
+pub(crate) fn differ(alloc: Global, nodes: &[At<'_>], f: usize, g: usize) -> Result<bool, Memory>
+    ensures { IfOk result (λ unlike. unlike ≡ spec.differ (views nodes.now) f g) }
 {
-    both_unlike(field_at(nodes, f), field_at(nodes, g))
+    let unlike = both_unlike(alloc, field_at(nodes, f), field_at(nodes, g))?;
+    Ok(unlike)
 }

@@ -1,6 +1,6 @@
 //! Pairs of plain selection sets: whether fields of the two differ, and the steps to other pairs.
 
-ghost use Rattle.std.specs.Prelude.{◌≡◌, ◌++◌, ◌&&◌, OnOk};
+ghost use Rattle.std.specs.Prelude.{◌≡◌, ◌++◌, ◌&&◌, OnOk, IfOk};
 ghost use Rattle.gql_nodes.specs.Listed.{views};
 ghost use Rattle.gql_validate.specs.SetPairs as spec;
 ghost use Rattle.gql_validate.specs.Merged as merged;
@@ -10,56 +10,70 @@ use crate::pairs::Pair;
 use crate::tables::{Tables, list_at};
 use gql_nodes::At;
 use pg_base::Memory;
+use std::alloc::Global;
 
 // ---- clashes
 
-fn clash_when(nodes: &[At<'_>], f: usize, g: usize) -> bool
-    ensures { result ≡ merged.clash_when (views nodes.now) f g }
+fn clash_when(alloc: Global, nodes: &[At<'_>], f: usize, g: usize) -> Result<bool, Memory>
+    ensures { IfOk result (λ clash. clash ≡ merged.clash_when (views nodes.now) f g) }
 {
     if meet(nodes, f, g) {
-        differ(nodes, f, g)
+        let differ = differ(alloc, nodes, f, g)?;
+        Ok(differ)
     } else {
-        false
+        Ok(false)
     }
 }
 
-fn clash_in_order(nodes: &[At<'_>], f: usize, g: usize) -> bool
-    ensures { result ≡ merged.clash_in_order (views nodes.now) f g }
+fn clash_in_order(alloc: Global, nodes: &[At<'_>], f: usize, g: usize) -> Result<bool, Memory>
+    ensures { IfOk result (λ clash. clash ≡ merged.clash_in_order (views nodes.now) f g) }
 {
-    if clash_when(nodes, f, g) {
-        return true;
+    let forth = clash_when(alloc, nodes, f, g)?;
+    if forth {
+        return Ok(true);
     }
-    clash_when(nodes, g, f)
+    let back = clash_when(alloc, nodes, g, f)?;
+    Ok(back)
 }
 
-fn clash_with(nodes: &[At<'_>], f: usize, gs: &[usize]) -> bool
-    ensures { result ≡ merged.clash_with (views nodes.now) f gs.now }
+fn clash_with(alloc: Global, nodes: &[At<'_>], f: usize, gs: &[usize]) -> Result<bool, Memory>
+    ensures { IfOk result (λ clash. clash ≡ merged.clash_with (views nodes.now) f gs.now) }
 {
     for g in gs {
-        if clash_in_order(nodes, f, *g) {
-            return true;
+        let clash = clash_in_order(alloc, nodes, f, *g)?;
+        if clash {
+            return Ok(true);
         }
     }
-    false
+    Ok(false)
 }
 
-fn clash_of(nodes: &[At<'_>], fs: &[usize], gs: &[usize]) -> bool
-    ensures { result ≡ merged.clash_of (views nodes.now) fs.now gs.now }
+fn clash_of(alloc: Global, nodes: &[At<'_>], fs: &[usize], gs: &[usize]) -> Result<bool, Memory>
+    ensures { IfOk result (λ clash. clash ≡ merged.clash_of (views nodes.now) fs.now gs.now) }
 {
     for f in fs {
-        if clash_with(nodes, *f, gs) {
-            return true;
+        let clash = clash_with(alloc, nodes, *f, gs)?;
+        if clash {
+            return Ok(true);
         }
     }
-    false
+    Ok(false)
 }
 
 /// Whether a field of one set and one of the other meet and differ.
-pub(crate) fn clashes(nodes: &[At<'_>], tables: &Tables, p: Pair) -> bool
-    ensures { result ≡ merged.clashes_by (views nodes.now) tables.now p }
+pub(crate) fn clashes(
+    alloc: Global,
+    nodes: &[At<'_>],
+    tables: &Tables,
+    p: Pair,
+) -> Result<bool, Memory>
+    ensures { IfOk result (λ clash. clash ≡ merged.clashes_by (views nodes.now) tables.now p) }
 {
     let fields = tables.fields.as_slice();
-    clash_of(nodes, list_at(fields, p.first), list_at(fields, p.second))
+    let firsts = list_at(fields, p.first);
+    let seconds = list_at(fields, p.second);
+    let clash = clash_of(alloc, nodes, firsts, seconds)?;
+    Ok(clash)
 }
 
 // ---- steps

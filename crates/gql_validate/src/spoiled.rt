@@ -31,11 +31,17 @@ fn put_pair(spoiled: &mut IndexSet<Pair>, p: Pair) -> Result<(), Memory>
     Ok(())
 }
 
-fn put_clash(graph: &SetGraph<'_>, p: Pair, spoiled: &mut IndexSet<Pair>) -> Result<(), Memory>
+fn put_clash(
+    alloc: Global,
+    graph: &SetGraph<'_>,
+    p: Pair,
+    spoiled: &mut IndexSet<Pair>,
+) -> Result<(), Memory>
     ensures { OnOk result (spoiled.new.keys
         ≡ spec.put_clash (views graph.now.nodes.now) graph.now.tables spoiled.old.keys p) }
 {
-    if !clashes(graph.nodes, &graph.tables, p) {
+    let clash = clashes(alloc, graph.nodes, &graph.tables, p)?;
+    if !clash {
         return Ok(());
     }
     put_pair(spoiled, p)?;
@@ -44,6 +50,7 @@ fn put_clash(graph: &SetGraph<'_>, p: Pair, spoiled: &mut IndexSet<Pair>) -> Res
 
 /// Puts the pairs whose sets clash.
 pub(crate) fn put_clashes(
+    alloc: Global,
     graph: &SetGraph<'_>,
     found: &[Pair],
     spoiled: &mut IndexSet<Pair>,
@@ -53,7 +60,7 @@ pub(crate) fn put_clashes(
         spoiled.old.keys found.now) }
 {
     for p in found {
-        put_clash(graph, *p, spoiled)?;
+        put_clash(alloc, graph, *p, spoiled)?;
     }
     Ok(())
 }

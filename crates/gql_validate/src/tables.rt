@@ -81,7 +81,7 @@ fn fragment_name(definition: &Definition) -> Option<&Text>
 }
 
 /// The places of the nodes that are fragments, by name.
-fn fragment_nodes(alloc: Global, nodes: &[At<'_>]) -> Result<Places, Memory>
+pub(crate) fn fragment_nodes(alloc: Global, nodes: &[At<'_>]) -> Result<Places, Memory>
     ensures { IfOk result (λ places. (name : List ℕ) → place_in places name
         ≡ fragment_node (views nodes.now) name) }
 {

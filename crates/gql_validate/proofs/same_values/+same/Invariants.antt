@@ -1,6 +1,8 @@
-use Rattle.std.proofs.Common.{◌≡◌, ◌≤◌, drop, length}
+use Rattle.std.proofs.Common.{◌≡◌, ◌≤◌, ◌||◌, drop, length}
 use Rattle.std.specs.Cmp.Lexicographic.{pointwise}
 use Rattle.gql_validate.specs.SameLists as lists
+use Rattle.gql_validate.specs.Met as known
+use Rattle.gql_validate.proofs.Told.{told}
 use Rattle.gql_validate.proofs.same_values.+same.Given as goal
 
 abbrev pub invariant-are_same-loop-i : goal.invariant-are_same-loop-i
@@ -9,14 +11,12 @@ invariant-are_same-loop-i l = record {
   within : l.i ≤ length l.ys;
 }
 
-abbrev pub invariant-all_are_among-loop-x : goal.invariant-all_are_among-loop-x
-invariant-all_are_among-loop-x l = lists.all_are_among lists.same_field (drop l.x-index l.xs) l.ys ≡ lists.all_are_among lists.same_field l.xs l.ys
+abbrev pub invariant-are_same_fields-loop-x : goal.invariant-are_same_fields-loop-x
+invariant-are_same_fields-loop-x l = told lists.same_field (drop l.x-index l.xs) l.ys l.met.items ≡ lists.same_fields l.xs l.ys
 
-abbrev pub invariant-is_among-loop-y : goal.invariant-is_among-loop-y
-invariant-is_among-loop-y l = lists.is_among lists.same_field l.x (drop l.y-index l.ys) ≡ lists.is_among lists.same_field l.x l.ys
-
-abbrev pub invariant-all_have-loop-y : goal.invariant-all_have-loop-y
-invariant-all_have-loop-y l = lists.all_have lists.same_field l.xs (drop l.y-index l.ys) ≡ lists.all_have lists.same_field l.xs l.ys
-
-abbrev pub invariant-has-loop-x : goal.invariant-has-loop-x
-invariant-has-loop-x l = lists.has lists.same_field (drop l.x-index l.xs) l.y ≡ lists.has lists.same_field l.xs l.y
+abbrev pub invariant-meet_fields-loop-place : goal.invariant-meet_fields-loop-place
+invariant-meet_fields-loop-place l = record {
+  found : (l.found || lists.is_among lists.same_field l.x (drop l.place l.ys)) ≡ lists.is_among lists.same_field l.x l.ys;
+  met : known.with_met lists.same_field l.x l.met.items l.place (drop l.place l.ys)
+      ≡ known.with_met lists.same_field l.x l.initial.met.items 0 l.ys;
+}

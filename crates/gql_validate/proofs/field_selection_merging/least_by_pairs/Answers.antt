@@ -3,7 +3,7 @@ use Rattle.gql_nodes.specs.Listed.{views}
 use Rattle.gql_validate.specs.Merged as spec
 use Rattle.gql_validate.proofs.Least.{answer, no_answer}
 use Rattle.gql_validate.proofs.Placed.{nil_of}
-use Rattle.gql_validate.proofs.field_selection_merging.least_place.Goals as goal
+use Rattle.gql_validate.proofs.field_selection_merging.least_by_pairs.Goals as goal
 
 pub returns-then-len-eq0 : goal.returns-then-len-eq0
 returns-then-len-eq0 c =
