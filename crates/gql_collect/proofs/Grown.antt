@@ -123,15 +123,14 @@ module _ (r : Request) (n : ℕ) (parent : Option ℕ) (ty : ℕ) (fields : List
       ∙ ap (λ (l : List (List ℕ)). with_keys (with_set n r) r.schema parent ty fields l tree) (sym (drop-item keys i key lt is))
       ∙ so_far
 
-  pub key_fails : (A B : Type 0) (items slice : List (Bor Field)) (tree total made other : Tree) (fault : CollectFault) → slice ≡ items → fields_of items ≡ fields_with key fields
+  pub key_fails : (A B : Type 0) (group : List Field) (tree total made other : Tree) (fault : CollectFault) → group ≡ fields_with key fields
       → with_keys (with_set n r) r.schema parent ty fields (drop i keys) tree ≡ total
-      → Grows {A = A} (Err fault) made (with_group (with_set n r) r.schema parent ty key (fields_of slice) tree)
+      → Grows {A = A} (Err fault) made (with_group (with_set n r) r.schema parent ty key group tree)
       → Grows {A = B} (Err fault) other total
-  key_fails A B items slice tree total made other fault same of so_far h =
-      let group : fields_of slice ≡ fields_with key fields = ap (λ (l : List (Bor Field)). fields_of l) same ∙ of in
-      let due : Tree = with_group (with_set n r) r.schema parent ty key (fields_of slice) tree in
+  key_fails A B group tree total made other fault of so_far h =
+      let due : Tree = with_group (with_set n r) r.schema parent ty key group tree in
       fails_more A B fault made other due total
-      (subst (λ (t : Tree). length due.places ≤ length t.places) (next_key tree total (fields_of slice) group so_far) (keys_grow (with_set n r) (set_grows n r) r.schema parent ty fields (drop (i + 1) keys) due)) h
+      (subst (λ (t : Tree). length due.places ≤ length t.places) (next_key tree total group of so_far) (keys_grow (with_set n r) (set_grows n r) r.schema parent ty fields (drop (i + 1) keys) due)) h
 
 -- ---- the root
 

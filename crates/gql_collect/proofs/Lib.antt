@@ -3,6 +3,7 @@ mod Args
 mod FragmentLemmas
 mod Depth
 mod Collects
+mod Groups
 mod Grown
 mod Steady
 mod WholeTrees

@@ -1,6 +1,8 @@
 -- What is met, as the code keeps it.
-use Rattle.std.specs.Prelude.{◌≡◌, ◌<◌, ◌≤◌, ℕ, Bool, true, List, length, map, Option, Some, None, Result, Ok, Err, ⊤}
+use Rattle.std.specs.Prelude.{◌≡◌, ◌<◌, ◌≤◌, ℕ, Bool, true, List, [], length, map, unwrap_or, Option, Some, None, Result, Ok, Err, ⊤}
 use Rattle.std.specs.Borrow.{Bor}
+use Rattle.std.specs.HashMap.{HashMap, get}
+use Rattle.std.specs.Str.{bytes_eq}
 use Rattle.gql_reader.specs.declared.tree.Field.{Field}
 use Rattle.gql_collect.specs.declared.request.Request as code
 use Rattle.pg_base.specs.Limits.{most_places}
@@ -12,6 +14,10 @@ use Rattle.gql_collect.specs.Collected.{Request, Met}
 
 abbrev pub fields_of : List (Bor Field) → List Field
 fields_of fields = map (λ f. f.now) fields
+
+-- what a map by response keys has for a key
+abbrev pub group_in : {S : Type 0} → HashMap (List ℕ) (List (Bor Field)) S → List ℕ → List Field
+group_in groups key = fields_of (unwrap_or (get bytes_eq groups key) [])
 
 abbrev pub met_by : List (Bor Field) → List (List ℕ) → List (List ℕ) → Met
 met_by fields entered asked = record { fields = fields_of fields; entered = entered; asked = asked }

@@ -14,10 +14,14 @@ use crate::growing::add_fields;
 use crate::request::Request;
 use gql_reader::{Definition, Document, Field, OperationDefinition, OperationKind, Selection};
 use indexmap::IndexSet;
+use pg_base::limits::MOST_PLACES;
 use pg_base::{Memory, Schema, Text, Vars};
 use place_tree::{Place, Tree};
 use sqlite_items::Items;
 use std::alloc::Global;
+
+/// As many levels below a set as a tree of so many places can have below the root.
+const LEVELS_BELOW: usize = MOST_PLACES;
 
 /// The type whose fields an operation selects.
 fn root_of(schema: &Schema, kind: OperationKind) -> u32
@@ -75,7 +79,7 @@ fn add_operation(
     add_fields(
         alloc,
         request,
-        2000,
+        LEVELS_BELOW,
         None,
         ty,
         fields.as_slice(),

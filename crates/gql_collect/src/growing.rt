@@ -13,6 +13,7 @@ ghost use Rattle.gql_collect.specs.Kept.{fields_of, request_of, grown, Grows, Is
 use crate::CollectFault;
 use crate::asking::{argument_named, is_word};
 use crate::collecting::collect_set;
+use crate::grouping::{groups_of, keys_of};
 use crate::request::Request;
 use gql_input::{InputError, coerce_literal};
 use gql_reader::{Argument, Field, Value};
@@ -23,45 +24,6 @@ use pg_base::{ArgDef, FieldDef, Memory, Schema, Text, TypeKind};
 use place_tree::{Place, PlaceArg};
 use sqlite_items::Items;
 use std::alloc::{AllocError, Global};
-
-/// The alias, or the name.
-fn response_key(field: &Field) -> &Text
-    ensures { result.now ≡ spec.response_key field.now }
-{
-    match &field.alias {
-        None => &field.name,
-        Some(alias) => alias,
-    }
-}
-
-/// The response keys, in the order of their first appearance.
-fn keys_of(alloc: Global, fields: &[&Field]) -> Result<IndexSet<Text>, Memory>
-    ensures { IfOk result (λ keys. keys.keys ≡ spec.keys_of (fields_of fields.now)) }
-{
-    let mut keys = IndexSet::new(alloc);
-    for field in fields {
-        keys.insert_full(response_key(field).copy(alloc)?)?;
-    }
-    Ok(keys)
-}
-
-/// The fields of a response key.
-fn fields_with<'a>(
-    alloc: Global,
-    key: &Text,
-    fields: &[&'a Field],
-) -> Result<Vec<&'a Field>, Memory>
-    ensures { IfOk result (λ group. fields_of group.items
-        ≡ spec.fields_with key.now (fields_of fields.now)) }
-{
-    let mut group = Vec::new(alloc);
-    for field in fields {
-        if *key == *response_key(field) {
-            group.push(*field)?;
-        }
-    }
-    Ok(group)
-}
 
 /// The fields of a type, none where it has none.
 fn fields_at(schema: &Schema, ty: u32) -> &[FieldDef]
@@ -250,8 +212,11 @@ pub(crate) fn add_fields<'a>(
         (spec.keys_of (fields_of fields.now)) (grown places.old asked.old.keys)) }
 {
     let keys = keys_of(alloc, fields)?;
+    let groups = groups_of(alloc, fields)?;
     for key in keys.as_slice() {
-        let group = fields_with(alloc, key, fields)?;
+        let Some(group) = groups.get(key) else {
+            continue;
+        };
         match add_group(
             alloc,
             request,

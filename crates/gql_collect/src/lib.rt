@@ -6,6 +6,7 @@ mod collect_tree;
 mod collecting;
 mod fault;
 mod fragments;
+mod grouping;
 mod growing;
 pub mod laws;
 mod request;

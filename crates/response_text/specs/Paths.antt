@@ -48,7 +48,8 @@ unfoldable pub message_piece : List ℕ → List ℕ
 message_piece message = codes "{\"message\":" ++ json_text message
 
 unfoldable pub place_piece : Pos → List ℕ
-place_piece pos = (codes ",\"locations\":[{\"line\":" ++ decimal pos.line) ++ (codes ",\"column\":" ++ decimal pos.column)
+place_piece pos =
+    (codes ",\"locations\":[{\"line\":" ++ decimal pos.line) ++ (codes ",\"column\":" ++ decimal pos.column)
 
 unfoldable pub path_piece : List PathPart → List ℕ
 path_piece path = codes "}],\"path\":[" ++ (path_text path ++ codes "]}")

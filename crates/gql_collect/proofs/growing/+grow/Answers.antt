@@ -3,6 +3,7 @@ use Rattle.std.proofs.lemmas.Grind.{common_steps}
 use Rattle.gql_collect.specs.Growing as spec
 use Rattle.gql_collect.specs.Kept.{fields_of, request_of, grown}
 use Rattle.gql_collect.proofs.Grown.{no_levels, below_due, key_fails, group_full}
+use Rattle.gql_collect.proofs.Groups.{group_found}
 use Rattle.gql_collect.proofs.growing.+grow.Goals as goal
 
 pub add_below-returns-then-levels-eq0 : goal.add_below-returns-then-levels-eq0
@@ -16,7 +17,9 @@ add_below-returns t c =
 pub add_fields-returns-in-Err : goal.add_fields-returns-in-Err
 add_fields-returns-in-Err t c =
     key_fails (request_of c.args.request.now) c.args.levels c.args.parent c.args.ty (fields_of c.args.fields.now) c.as_slice-key-items.result.now c.loop-key.key-index c.key-item.result c.loop-key-test.true c.key-item.is
-    (Unit {0}) (Unit {0}) c.in_ok-group.group.items c.as_slice.result.now _ _ _ _ c.in-Err.fault c.as_slice.ensures.value c.in_ok-group.ensures c.loop-key.invariant.same c.in-Err.ensures
+    (Unit {0}) (Unit {0}) (fields_of c.as_slice.result.now) _ _ _ _ c.in-Err.fault
+    (group_found c.in_ok-groups.groups c.key-item.result c.get.result c.in-Some.group c.as_slice.result.now _ c.get.ensures.value c.in-Some.is c.as_slice.ensures (c.in_ok-groups.ensures c.key-item.result))
+    c.loop-key.invariant.same c.in-Err.ensures
 
 pub add_group-returns-then-len-ge-MOST_PLACES : goal.add_group-returns-then-len-ge-MOST_PLACES
 add_group-returns-then-len-ge-MOST_PLACES t c =
