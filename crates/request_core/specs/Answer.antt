@@ -1,43 +1,42 @@
--- The answer to a document over a catalog with its schema and its tables.
-use Rattle.std.specs.Prelude.{◌≡◌, ◌⊎◌, ℕ, List, Option, Some, None}
+-- The answer to a request over a catalog with its schema and its tables.
+use Rattle.std.specs.Prelude.{◌≡◌, ℕ, nat_lt, if◌then◌else◌, List, length}
 use Rattle.pg_base.specs.Base.{BaseParts}
-use Rattle.rel_model.specs.declared.tables.Tables.{Tables}
-use Rattle.gql_reader.specs.declared.fault.ReadFault.{ReadFault}
-use Rattle.gql_reader.specs.declared.fault.ReadFault.TheVariants as read
+use Rattle.pg_base.specs.Limits.{most_places, most_visited_rows, most_response_bytes}
+use Rattle.pg_base.specs.declared.vars.Vars.{Vars}
 use Rattle.gql_reader.specs.declared.tree.Document.{Document}
-use Rattle.gql_reader.specs.Document.{ReadsDocument, IsReadFault}
-use Rattle.request_core.specs.declared.asking.Asked.{Asked}
-use Rattle.request_core.specs.Asking.{asked_of}
-use Rattle.request_core.specs.AllRows.{answer_of}
-use Rattle.request_core.specs.Refusals.{refusal_at, read_message}
+use Rattle.rel_model.specs.declared.tables.Tables.{Tables}
+use Rattle.place_tree.specs.declared.place.Tree.{Tree}
+use Rattle.place_tree.specs.Exec.{executed, visited}
+use Rattle.place_tree.specs.Response.{response_text}
+use Rattle.gql_collect.specs.Trees.{tree_of}
+use Rattle.request_core.specs.Refusals.{too_large, too_many}
+use Rattle.request_core.specs.Request.{Request, Ends}
 
--- the bytes are no document: the response has their first fault
-abbrev pub fault_text : ReadFault → List ℕ
-fault_text (read.At which at) = refusal_at (read_message which) at
-fault_text read.Memory = refusal_at (read_message 0) (record { line = 1; column = 1 })
+-- ---- a query that isn't refused (GraphQL October 2021, section 6)
 
-pub record IsRefused (document text : List ℕ) : Type 0 where
-  pub fault : ReadFault
-  pub fails : IsReadFault document fault
-  pub shown : text ≡ fault_text fault
+-- the text has few enough bytes
+abbrev pub sized : List ℕ → List ℕ
+sized text = if nat_lt most_response_bytes (length text) then too_large else text
 
--- the document is of the form, and the response shows what it asks for
-pub record Shows (base : BaseParts) (tables : Tables) (read : Document) (text : List ℕ) : Type 0 where
-  pub asked : Asked
-  pub asks : asked_of base.schema read.definitions ≡ Some asked
-  pub shown : text ≡ answer_of base.schema tables asked
+-- few enough rows are visited
+abbrev pub executed_answer : BaseParts → Tables → Vars → Tree → List ℕ
+executed_answer base tables vars tree =
+    if nat_lt most_visited_rows (visited base tables vars tree) then too_large
+    else sized (response_text (executed base tables vars tree))
 
-pub record IsShown (base : BaseParts) (tables : Tables) (document text : List ℕ) : Type 0 where
-  pub read : Document
-  pub reads : ReadsDocument document read
-  pub shows : Shows base tables read text
+-- the tree has few enough places
+abbrev pub tree_answer : BaseParts → Tables → Vars → Tree → List ℕ
+tree_answer base tables vars tree =
+    if nat_lt most_places (length tree.places) then too_many else executed_answer base tables vars tree
 
--- the text is the answer to the document
-abbrev pub IsAnswer : BaseParts → Tables → List ℕ → List ℕ → Type 0
-IsAnswer base tables document text = IsRefused document text ⊎ IsShown base tables document text
+-- the text is the response to the operation at a place of the document
+abbrev pub Executes : BaseParts → Tables → List ℕ → Document → ℕ → Vars → Type 0
+Executes base tables text read place vars =
+    text ≡ tree_answer base tables vars (tree_of base.schema read place vars)
 
--- the bytes are a document, and not of the form
-pub record IsUnbuilt (base : BaseParts) (document : List ℕ) : Type 0 where
-  pub read : Document
-  pub reads : ReadsDocument document read
-  pub asks : asked_of base.schema read.definitions ≡ None
+-- ---- requests
+
+-- the text is the answer to the request: its first refusal, or the response to its query
+abbrev pub IsAnswer : BaseParts → Tables → Request → List ℕ → Type 0
+IsAnswer base tables request text =
+    Ends base.schema request (λ refused. text ≡ refused) (Executes base tables text)

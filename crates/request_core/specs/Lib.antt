@@ -1,6 +1,6 @@
+pub mod RuleMessages
 pub mod Refusals
-pub mod Asking
-pub mod AllRows
+pub mod Request
 pub mod Answer
 pub mod Load
 pub mod FaultLines
