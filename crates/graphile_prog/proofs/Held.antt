@@ -1,8 +1,10 @@
 -- What is known of the bytes of files, where they are told.
-use Rattle.std.proofs.Common.{◌≡◌, ℕ, ◌≤◌, List, length, subst}
+use Rattle.std.proofs.Common.{◌≡◌, ℕ, ◌≤◌, List, length, Option, Some, None, subst}
 use Rattle.std.specs.Prelude.{⊤}
 use Rattle.pg_io.specs.Files.{Told, Untold, Absent, Holds}
-use Rattle.graphile_prog.specs.Told.{IfHeld, IfBothHeld}
+use Rattle.request_core.specs.Request.{Request, asked}
+use Rattle.graphile_prog.specs.Words.{Query}
+use Rattle.graphile_prog.specs.Told.{Outside, IfHeld, IfGiven, IfAsked, IfAllHeld}
 use Rattle.graphile_prog.specs.Run.{IsTold}
 use Rattle.graphile_prog.specs.Parts.{IsRead}
 
@@ -11,21 +13,37 @@ held_map Untold P Q f h = h
 held_map Absent P Q f h = h
 held_map (Holds bytes) P Q f h = f bytes h
 
-pub held_both : (one other : Told) (P Q : List ℕ → Type 0) (R : List ℕ → List ℕ → Type 0) → ((b d : List ℕ) → P b → Q d → R b d)
-    → IfHeld one P → IfHeld other Q → IfBothHeld one other R
-held_both one other P Q R f p q = held_map one P (λ b. IfHeld other (R b)) (λ b x. held_map other Q (R b) (λ d y. f b d x y) q) p
-
 -- what can't hold of the same bytes
 pub held_apart : (told : Told) (P Q : List ℕ → Type 0) → IsTold told → ((bytes : List ℕ) → P bytes → Q bytes → ⊥) → IfHeld told P → IfHeld told Q → ⊥
 held_apart Untold P Q t f p q = absurd t
 held_apart Absent P Q t f p q = absurd t
 held_apart (Holds bytes) P Q t f p q = f bytes p q
 
-pub both_apart : (one other : Told) (P Q : List ℕ → List ℕ → Type 0) → IsTold one → IsTold other → ((b d : List ℕ) → P b d → Q b d → ⊥) → IfBothHeld one other P → IfBothHeld one other Q → ⊥
-both_apart one other P Q t u f p q =
-    held_apart one (λ b. IfHeld other (P b)) (λ b. IfHeld other (Q b)) t (λ b x y. held_apart other (P b) (Q b) u (f b) x y) p q
+-- ---- a file that may be named
 
--- a file that was read is there, and is not too large
+pub given_map : (o : Outside) (name : Option (List ℕ)) (P Q : Option (List ℕ) → Type 0) → ((v : Option (List ℕ)) → P v → Q v) → IfGiven o name P → IfGiven o name Q
+given_map o None P Q f h = f None h
+given_map o (Some name) P Q f h = held_map (o.file name) (λ b. P (Some b)) (λ b. Q (Some b)) (λ b. f (Some b)) h
+
+-- ---- what a query's files ask
+
+abbrev Beside : Query → List ℕ → (Request → Type 0) → Option (List ℕ) → Type 0
+Beside q document P variables = P (asked document q.operation variables)
+
+abbrev Over : Outside → Query → (Request → Type 0) → List ℕ → Type 0
+Over o q P document = IfGiven o q.variables (Beside q document P)
+
+pub asked_map : (o : Outside) (q : Query) (P Q : Request → Type 0) → ((r : Request) → P r → Q r) → IfAsked o q P → IfAsked o q Q
+asked_map o q P Q f h =
+    held_map (o.file q.document) (Over o q P) (Over o q Q)
+    (λ d. given_map o q.variables (Beside q d P) (Beside q d Q) (λ v. f (asked d q.operation v))) h
+
+pub all_held : (o : Outside) (q : Query) (P : List ℕ → Type 0) (Q : Request → Type 0) (R : List ℕ → Request → Type 0)
+    → ((b : List ℕ) (r : Request) → P b → Q r → R b r) → IfHeld (o.file q.script) P → IfAsked o q Q → IfAllHeld o q R
+all_held o q P Q R f p h = held_map (o.file q.script) P (λ b. IfAsked o q (R b)) (λ b x. asked_map o q Q (R b) (λ r y. f b r x y) h) p
+
+-- ---- a file that was read is there, and is not too large
+
 pub read_there : (told : Told) (n : ℕ) (bytes : List ℕ) → IsRead told n bytes → IfHeld told (λ _. ⊤)
 read_there told n bytes r = held_map told (λ held. (bytes ≡ held) × (length held ≤ n)) (λ _. ⊤) (λ held p. tt) r
 

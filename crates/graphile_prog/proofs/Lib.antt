@@ -3,3 +3,4 @@ pub mod Held
 pub mod Order
 pub mod TaskStages
 pub mod RunEnds
+pub mod Results

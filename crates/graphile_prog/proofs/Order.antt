@@ -17,6 +17,10 @@ pub passed_both : (xs ys : List Stage) → ArePassed xs → ArePassed ys → Are
 passed_both [] ys p q = q
 passed_both (x ∷ xs) ys p q = (p.0, passed_both xs ys p.1 q)
 
+pub passed_split : (xs ys : List Stage) → ArePassed (xs ++ ys) → ArePassed xs × ArePassed ys
+passed_split [] ys p = (tt, p)
+passed_split (x ∷ xs) ys p = let q = passed_split xs ys p.1 in ((p.0, q.0), q.1)
+
 pub ends_refused : (xs : List Stage) (Last : Status → Type 0) (s : Status) → AreRefused xs s → Ends xs Last s
 ends_refused [] Last s r = absurd r
 ends_refused (x ∷ xs) Last s (inl r) = inl r

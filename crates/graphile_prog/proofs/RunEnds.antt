@@ -1,19 +1,20 @@
 -- How a run ends, from what its parts say.
 use Rattle.std.proofs.Common.{◌≡◌, ◌⊎◌, inl, inr, ℕ, ◌<◌, ◌≤◌, List, [], ◌∷◌, ◌++◌, length, Option, Some, None, arith, sym, subst}
 use Rattle.pg_base.specs.Base.{BaseParts}
-use Rattle.pg_base.specs.Limits.{most_script_bytes, most_document_bytes}
+use Rattle.pg_base.specs.Lists.{Each}
+use Rattle.pg_base.specs.Limits.{most_script_bytes, most_document_bytes, most_variables_bytes}
 use Rattle.request_core.specs.Load.{IsLoadFault}
-use Rattle.request_core.proofs.OneAnswer.{loads_no_fault, loads_unbuilt_no_answer}
-use Rattle.graphile_prog.specs.Words.{Command, check, schema, query}
+use Rattle.request_core.proofs.OneAnswer.{loads_no_fault}
+use Rattle.graphile_prog.specs.Words.{Command, check, schema, query, Query}
 use Rattle.graphile_prog.specs.Told.{Outside, Output, IfHeld}
 use Rattle.graphile_prog.specs.Stages.{Ends, AreRefused, ArePassed, OrMemory}
-use Rattle.graphile_prog.specs.Commands.{IsSomeScript, IsAnswered, IsUnanswered, script_stages, document_stages, task_of, Wrote, Delivered}
+use Rattle.graphile_prog.specs.Commands.{IsSomeScript, script_stages, variables_stages, request_stages, given_files, task_of, Wrote, Delivered}
 use Rattle.graphile_prog.specs.Parts.{IsPassed, Tells}
 use Rattle.graphile_prog.specs.Run.{HasEnd, IsSafe, IsUnhindered, IsComplete}
 use Rattle.graphile_prog.specs.declared.status.Status.{Status}
 use Rattle.graphile_prog.specs.declared.status.Status.TheVariants as status
-use Rattle.graphile_prog.proofs.Order.{ends_refused, ends_passed, RefuseNone, none_both, past}
-use Rattle.graphile_prog.proofs.Held.{held_apart, both_apart}
+use Rattle.graphile_prog.proofs.Order.{ends_refused, ends_passed, passed_split, RefuseNone, none_both, past}
+use Rattle.graphile_prog.proofs.Held.{held_apart}
 
 -- a refused command ends so
 pub ended_refused : (c : Command) (o : Outside) (out : Output) (answered : Status) → OrMemory (AreRefused (task_of o c).stages) answered → HasEnd (Some c) o out answered
@@ -42,30 +43,32 @@ script_taken o name safe passed = (
   ),
 )
 
-document_taken : (o : Outside) (script document : List ℕ) → IsSafe o script → IsSafe o document → ArePassed (document_stages o script document)
-    → RefuseNone (document_stages o script document)
-document_taken o script document safe safe_too passed = (
-  (λ s r. safe_too.1 r.1.rose),
+variables_taken : (o : Outside) (name : Option (List ℕ)) → Each (IsSafe o) (given_files name) → ArePassed (variables_stages o name) → RefuseNone (variables_stages o name)
+variables_taken o None safe passed = tt
+variables_taken o (Some name) safe passed = (
+  (λ s r. safe.0.1 r.1.rose),
   (
-    (λ s r. held_apart (o.file document) (λ b. most_document_bytes < length b) (λ b. length b ≤ most_document_bytes) safe_too.0 (not_both most_document_bytes) r.1 passed.1.0),
-    (
-      (λ s r. both_apart (o.file script) (o.file document) IsUnanswered IsAnswered safe.0 safe_too.0
-          (λ b d none some. loads_unbuilt_no_answer b d none.0 some.0 none.1 some.1 some.3 none.2 some.2 none.3 some.4) r.1 passed.1.1.0),
-      tt,
-    ),
+    (λ s r. held_apart (o.file name) (λ b. most_variables_bytes < length b) (λ b. length b ≤ most_variables_bytes) safe.0.0 (not_both most_variables_bytes) r.1 passed.1.0),
+    tt,
   ),
 )
 
-first_passed : (o : Outside) (script document : List ℕ) → ArePassed (script_stages o script ++ document_stages o script document) → ArePassed (script_stages o script)
-first_passed o script document p = (p.0, (p.1.0, (p.1.1.0, tt)))
+request_taken : (o : Outside) (q : Query) → IsSafe o q.document → Each (IsSafe o) (given_files q.variables) → ArePassed (request_stages o q) → RefuseNone (request_stages o q)
+request_taken o q safe given passed = (
+  (λ s r. safe.1 r.1.rose),
+  (
+    (λ s r. held_apart (o.file q.document) (λ b. most_document_bytes < length b) (λ b. length b ≤ most_document_bytes) safe.0 (not_both most_document_bytes) r.1 passed.1.0),
+    variables_taken o q.variables given passed.1.1,
+  ),
+)
 
 taken : (c : Command) (o : Outside) (out : Output) → IsUnhindered o out c → RefuseNone (task_of o c).stages
 taken (check script) o out u = script_taken o script u.safe.0 u.passed
 taken (schema script) o out u = script_taken o script u.safe.0 u.passed
-taken (query script document) o out u =
-    none_both (script_stages o script) (document_stages o script document)
-    (script_taken o script u.safe.0 (first_passed o script document u.passed))
-    (document_taken o script document u.safe.0 u.safe.1.0 u.passed.1.1.1)
+taken (query q) o out u =
+    let split = passed_split (script_stages o q.script) (request_stages o q) u.passed in
+    none_both (script_stages o q.script) (request_stages o q) (script_taken o q.script u.safe.0 split.0)
+    (request_taken o q u.safe.1.0 u.safe.1.1 split.1)
 
 unhindered : (c : Command) (o : Outside) (out : Output) (answered : Status) → IsUnhindered o out c
     → Ends (task_of o c).stages (Wrote (task_of o c).writes out) answered → (answered ≡ status.Done) ⊎ (answered ≡ status.Memory)
@@ -84,7 +87,6 @@ told : (s t : Status) → Tells s t → (t ≡ s) ⊎ (t ≡ status.Memory)
 told status.Done t e = inl e
 told status.BadWords t e = inl e
 told (status.ScriptRefused f) t e = e
-told (status.Unbuilt f) t e = inl e
 told status.FileFault t e = inl e
 told status.WriteFault t e = inl e
 told status.TooLarge t e = inl e

@@ -1,24 +1,23 @@
 -- The stages of commands, from what their parts say.
-use Rattle.std.proofs.Common.{◌≡◌, inl, inr, ℕ, ◌<◌, ◌≤◌, List, [], ◌∷◌, ◌++◌, length, subst, ◌∙◌, codes}
+use Rattle.std.proofs.Common.{◌≡◌, inl, inr, ℕ, ◌<◌, ◌≤◌, List, [], ◌∷◌, ◌++◌, length, Option, Some, None, subst, ◌∙◌, codes}
 use Rattle.std.specs.Prelude.{⊤}
 use Rattle.pg_base.specs.Base.{BaseParts}
-use Rattle.pg_base.specs.Limits.{most_script_bytes, most_document_bytes}
+use Rattle.pg_base.specs.Limits.{most_script_bytes, most_document_bytes, most_variables_bytes}
 use Rattle.pg_io.specs.Files.{Told}
-use Rattle.pg_io.specs.Streams.{Rose}
 use Rattle.rel_model.specs.declared.tables.Tables.{Tables}
 use Rattle.schema_build.specs.Sdl.{sdl_of}
 use Rattle.request_core.specs.Load.{Loads, IsLoadFault}
-use Rattle.request_core.specs.Answer.{IsAnswer, IsUnbuilt}
-use Rattle.graphile_prog.specs.Words.{check, schema, query}
-use Rattle.graphile_prog.specs.Told.{Outside, outside, IfHeld, CountsStay}
-use Rattle.graphile_prog.specs.Stages.{Stage, Because, AreRefused, ArePassed, OrMemory}
-use Rattle.graphile_prog.specs.Commands.{IsSomeScript, IsAnswered, IsUnanswered, IsRefusedBy, IsSchemaText, IsResponse, script_stage, script_stages, document_stages, file_stage, size_stage}
-use Rattle.graphile_prog.specs.Parts.{read_stages, IsRead, IsLoadedBy, IsLoaded, HasAnswer, over_stage, answer_stages, AnswersBy, IsAnsweredBy, IsPassed}
-use Rattle.graphile_prog.specs.declared.status.Form.TheVariants as form
+use Rattle.request_core.specs.Request.{Request, asked}
+use Rattle.request_core.specs.Answer.{IsAnswer}
+use Rattle.graphile_prog.specs.Words.{check, schema, query, Query}
+use Rattle.graphile_prog.specs.Told.{Outside, outside, IfHeld, IfGiven, CountsStay}
+use Rattle.graphile_prog.specs.Stages.{Stage, AreRefused, ArePassed, OrMemory}
+use Rattle.graphile_prog.specs.Commands.{IsSomeScript, IsRefusedBy, IsSchemaText, IsResponse, script_stage, script_stages, variables_stages, request_stages, file_stage, size_stage, task_of}
+use Rattle.graphile_prog.specs.Parts.{read_stages, IsRead, IsLoadedBy, IsLoaded, IsGivenAs, IsAnsweredBeside, IsAnsweredBy, IsPassed}
 use Rattle.graphile_prog.specs.declared.status.Status.{Status}
 use Rattle.graphile_prog.specs.declared.status.Status.TheVariants as status
 use Rattle.graphile_prog.proofs.Order.{refused_first, refused_later, passed_both}
-use Rattle.graphile_prog.proofs.Held.{held_map, held_both, read_there, read_short, read_holds}
+use Rattle.graphile_prog.proofs.Held.{held_map, all_held, read_there, read_short, read_holds}
 
 -- ---- the script's file
 
@@ -60,86 +59,95 @@ described o name base tables text loaded is = record {
   due = held_map (o.file name) (IsLoadedBy base tables) (IsSchemaText text) (λ b l. record { base = base; tables = tables; loads = l.1; shown = is }) loaded;
 }
 
--- ---- the document's file
+-- ---- the variables' file, where one is named
 
-pub document_unread : (o : Outside) (name : List ℕ) (base : BaseParts) (tables : Tables) (s : Status)
-    → OrMemory (AreRefused (read_stages o name most_document_bytes)) s → OrMemory (AreRefused (answer_stages o name base tables)) s
-document_unread o name base tables s (inl m) = inl m
-document_unread o name base tables s (inr r) = inr (refused_first (read_stages o name most_document_bytes) (over_stage (o.file name) base tables ∷ []) s r)
+pub given_passed : (o : Outside) (name given : Option (List ℕ)) → IsGivenAs o name given → ArePassed (variables_stages o name)
+given_passed o None given g = tt
+given_passed o (Some name) given g =
+    (read_there (o.file name) most_variables_bytes g.0 g.2, (read_short (o.file name) most_variables_bytes g.0 g.2, tt))
 
-pub document_refused : (o : Outside) (name bytes : List ℕ) (base : BaseParts) (tables : Tables) (s : Status) → IsRead (o.file name) most_document_bytes bytes
-    → OrMemory (Because (status.Unbuilt form.Document) (IsUnbuilt base bytes)) s → OrMemory (AreRefused (answer_stages o name base tables)) s
-document_refused o name bytes base tables s read (inl m) = inl m
-document_refused o name bytes base tables s read (inr r) =
-    inr (refused_later (read_stages o name most_document_bytes) (over_stage (o.file name) base tables ∷ []) s
-    (read_there (o.file name) most_document_bytes bytes read, (read_short (o.file name) most_document_bytes bytes read, tt))
-    (inl (r.0, read_holds (o.file name) most_document_bytes bytes (IsUnbuilt base) (IsUnbuilt base) (λ held short none. none) r.1 read)))
+-- what holds of what was read
+given_holds : (o : Outside) (name given : Option (List ℕ)) (P : Option (List ℕ) → Type 0) → P given → IsGivenAs o name given → IfGiven o name P
+given_holds o None given P p g = subst P g p
+given_holds o (Some name) given P p g =
+    read_holds (o.file name) most_variables_bytes g.0 (λ b. P (Some b)) (λ b. P (Some b)) (λ b short x. x) (subst P g.1 p) g.2
 
-pub document_answered : (told : Told) (bytes : List ℕ) (base : BaseParts) (tables : Tables) (text : List ℕ) → IsRead told most_document_bytes bytes
-    → IsAnswer base tables bytes text → IsAnsweredBy told base tables text
-document_answered told bytes base tables text read answer =
-    read_holds told most_document_bytes bytes (λ b. IsAnswer base tables b text) (AnswersBy base tables text) (λ held short a. (short, a)) answer read
+abbrev Beside : Query → List ℕ → (Request → Type 0) → Option (List ℕ) → Type 0
+Beside q document P variables = P (asked document q.operation variables)
 
--- ---- both
+-- ---- from a document's bytes on
 
-pub query_unloaded : (o : Outside) (script document : List ℕ) (s : Status) → OrMemory (AreRefused (script_stages o script)) s
-    → OrMemory (AreRefused (script_stages o script ++ document_stages o script document)) s
-query_unloaded o script document s (inl m) = inl m
-query_unloaded o script document s (inr r) = inr (refused_first (script_stages o script) (document_stages o script document) s r)
+pub beside_answered : (o : Outside) (q : Query) (base : BaseParts) (tables : Tables) (document : List ℕ) (given : Option (List ℕ)) (text : List ℕ) → IsGivenAs o q.variables given
+    → IsAnswer base tables (asked document q.operation given) text → IsAnsweredBeside o q base tables document text
+beside_answered o q base tables document given text g a = record {
+  passed = given_passed o q.variables given g;
+  answer = given_holds o q.variables given (Beside q document (λ r. IsAnswer base tables r text)) a g;
+}
 
-module _ (file mid_file : List ℕ → Told) (before mid now : List ℕ → ℕ) (script document : List ℕ) (base : BaseParts) (tables : Tables)
-    (loaded : IsLoaded (file script) base tables) (kept : (name : List ℕ) → mid_file name ≡ file name) where
-  moved : (P : List ℕ → Type 0) → IfHeld (mid_file document) P → IfHeld (file document) P
-  moved P h = subst (λ (t : Told). IfHeld t P) (kept document) h
+-- ---- from a document's file on
 
-  refused : (s : Status) → CountsStay before mid → AreRefused (answer_stages (outside mid_file mid now) document base tables) s
-      → AreRefused (document_stages (outside file before now) script document) s
-  refused s stay (inl r) = inl (
-    r.0,
-    record {
-      rose = subst (λ (n : ℕ). Rose n (now document)) (stay document) r.1.rose;
-      others = λ other ne. r.1.others other ne ∙ stay other;
-    },
-  )
-  refused s stay (inr (p, inl r)) = inr (moved (λ _. ⊤) p, inl (r.0, moved (λ b. most_document_bytes < length b) r.1))
-  refused s stay (inr (p, inr (q, inl r))) =
-      inr (
-        moved (λ _. ⊤) p,
-        inr (
-          moved (λ b. length b ≤ most_document_bytes) q,
-          inl (
-            r.0,
-            held_both (file script) (file document) (IsLoadedBy base tables) (IsUnbuilt base) IsUnanswered
-                (λ b d l none. (base, tables, l.1, none)) loaded (moved (IsUnbuilt base) r.1),
-          ),
-        ),
-      )
-  refused s stay (inr (p, inr (q, inr r))) = absurd r.1
+document_read : (o : Outside) (q : Query) (document : List ℕ) → IsRead (o.file q.document) most_document_bytes document → ArePassed (read_stages o q.document most_document_bytes)
+document_read o q document read =
+    (read_there (o.file q.document) most_document_bytes document read, (read_short (o.file q.document) most_document_bytes document read, tt))
 
-  pub query_unanswered : (s : Status) → CountsStay before mid → OrMemory (AreRefused (answer_stages (outside mid_file mid now) document base tables)) s
-      → OrMemory (AreRefused (script_stages (outside file before now) script ++ document_stages (outside file before now) script document)) s
-  query_unanswered s stay (inl m) = inl m
-  query_unanswered s stay (inr r) =
-      inr (refused_later (script_stages (outside file before now) script) (document_stages (outside file before now) script document) s
-      (script_passed (outside file before now) script base tables loaded) (refused s stay r))
+pub files_unread : (o : Outside) (q : Query) (s : Status) → OrMemory (AreRefused (read_stages o q.document most_document_bytes)) s → OrMemory (AreRefused (request_stages o q)) s
+files_unread o q s (inl m) = inl m
+files_unread o q s (inr r) = inr (refused_first (read_stages o q.document most_document_bytes) (variables_stages o q.variables) s r)
 
-  pub query_passed : (response text : List ℕ) → IsAnsweredBy (mid_file document) base tables response → text ≡ response ++ 10 ∷ []
-      → IsPassed (outside file before now) (query script document) text
-  query_passed response text answered is =
-      let a = moved (AnswersBy base tables response) answered in
-      record {
-        stages = passed_both (script_stages (outside file before now) script) (document_stages (outside file before now) script document)
-            (script_passed (outside file before now) script base tables loaded) (
-              held_map (file document) (AnswersBy base tables response) (λ _. ⊤) (λ b x. tt) a,
-              (
-                held_map (file document) (AnswersBy base tables response) (λ b. length b ≤ most_document_bytes) (λ b x. x.0) a,
-                (
-                  held_both (file script) (file document) (IsLoadedBy base tables) (AnswersBy base tables response) IsAnswered
-                      (λ b d l x. (base, tables, l.1, response, x.1)) loaded a,
-                  tt,
-                ),
-              ),
-            );
-        due = held_both (file script) (file document) (IsLoadedBy base tables) (AnswersBy base tables response) (IsResponse text)
-            (λ b d l x. record { base = base; tables = tables; response = response; loads = l.1; answer = x.1; shown = is }) loaded a;
-      }
+over_answered : (o : Outside) (q : Query) (base : BaseParts) (tables : Tables) (document text : List ℕ) → IsRead (o.file q.document) most_document_bytes document
+    → IsAnsweredBeside o q base tables document text → IsAnsweredBy o q base tables text
+over_answered o q base tables document text read a = record {
+  passed = passed_both (read_stages o q.document most_document_bytes) (variables_stages o q.variables) (document_read o q document read) a.passed;
+  answer = read_holds (o.file q.document) most_document_bytes document (λ d. IfGiven o q.variables (Beside q d (λ r. IsAnswer base tables r text)))
+      (λ d. IfGiven o q.variables (Beside q d (λ r. IsAnswer base tables r text))) (λ held short x. x) a.answer read;
+}
+
+-- two moments of a run with the same files and counts
+module _ (file mid_file : List ℕ → Told) (before mid now : List ℕ → ℕ) (kept : (name : List ℕ) → mid_file name ≡ file name)
+    (stay : CountsStay before mid) where
+  same_outside : outside mid_file mid now ≡ outside file before now
+  same_outside = λ i. outside (λ n. kept n i) (λ n. stay n i) now
+
+  moved : (P : Outside → Type 0) → P (outside mid_file mid now) → P (outside file before now)
+  moved P p = subst P same_outside p
+
+  pub files_refused : (q : Query) (document : List ℕ) (s : Status) → IsRead (file q.document) most_document_bytes document
+      → OrMemory (AreRefused (variables_stages (outside mid_file mid now) q.variables)) s → OrMemory (AreRefused (request_stages (outside file before now) q)) s
+  files_refused q document s read (inl m) = inl m
+  files_refused q document s read (inr r) =
+      inr (refused_later (read_stages (outside file before now) q.document most_document_bytes) (variables_stages (outside file before now) q.variables) s
+      (document_read (outside file before now) q document read) (moved (λ o. AreRefused (variables_stages o q.variables) s) r))
+
+  pub files_answered : (q : Query) (base : BaseParts) (tables : Tables) (document text : List ℕ) → IsRead (file q.document) most_document_bytes document
+      → IsAnsweredBeside (outside mid_file mid now) q base tables document text → IsAnsweredBy (outside file before now) q base tables text
+  files_answered q base tables document text read a =
+      over_answered (outside file before now) q base tables document text read (moved (λ o. IsAnsweredBeside o q base tables document text) a)
+
+-- ---- a whole query
+
+pub query_unloaded : (o : Outside) (q : Query) (s : Status) → OrMemory (AreRefused (script_stages o q.script)) s → OrMemory (AreRefused (task_of o (query q)).stages) s
+query_unloaded o q s (inl m) = inl m
+query_unloaded o q s (inr r) = inr (refused_first (script_stages o q.script) (request_stages o q) s r)
+
+loaded_passed : (o : Outside) (q : Query) (base : BaseParts) (tables : Tables) (response text : List ℕ) → IsLoaded (o.file q.script) base tables
+    → IsAnsweredBy o q base tables response → text ≡ response ++ 10 ∷ [] → IsPassed o (query q) text
+loaded_passed o q base tables response text loaded a is = record {
+  stages = passed_both (script_stages o q.script) (request_stages o q) (script_passed o q.script base tables loaded) a.passed;
+  due = all_held o q (IsLoadedBy base tables) (λ r. IsAnswer base tables r response) (IsResponse text)
+      (λ script request l x. record { base = base; tables = tables; response = response; loads = l.1; answer = x; shown = is }) loaded a.answer;
+}
+
+module _ (file mid_file : List ℕ → Told) (before mid now : List ℕ → ℕ) (q : Query) (base : BaseParts) (tables : Tables)
+    (loaded : IsLoaded (file q.script) base tables) (kept : (name : List ℕ) → mid_file name ≡ file name) (stay : CountsStay before mid) where
+  pub query_unanswered : (s : Status) → OrMemory (AreRefused (request_stages (outside mid_file mid now) q)) s
+      → OrMemory (AreRefused (task_of (outside file before now) (query q)).stages) s
+  query_unanswered s (inl m) = inl m
+  query_unanswered s (inr r) =
+      inr (refused_later (script_stages (outside file before now) q.script) (request_stages (outside file before now) q) s
+      (script_passed (outside file before now) q.script base tables loaded) (moved file mid_file before mid now kept stay (λ o. AreRefused (request_stages o q) s) r))
+
+  pub query_passed : (response text : List ℕ) → IsAnsweredBy (outside mid_file mid now) q base tables response → text ≡ response ++ 10 ∷ []
+      → IsPassed (outside file before now) (query q) text
+  query_passed response text a is =
+      loaded_passed (outside file before now) q base tables response text loaded
+      (moved file mid_file before mid now kept stay (λ o. IsAnsweredBy o q base tables response) a) is

@@ -1,19 +1,19 @@
 -- The commands: their stages in order, and what they write.
-use Rattle.std.specs.Prelude.{◌≡◌, ◌⊎◌, ℕ, ◌<◌, ◌≤◌, List, [], ◌∷◌, ◌++◌, length, Ok, Err, ⊤, codes}
+use Rattle.std.specs.Prelude.{◌≡◌, ◌⊎◌, ℕ, ◌<◌, ◌≤◌, List, [], ◌∷◌, ◌++◌, length, Option, Some, None, Ok, Err, ⊤, codes}
 use Rattle.pg_base.specs.Base.{BaseParts}
-use Rattle.pg_base.specs.Limits.{most_script_bytes, most_document_bytes}
+use Rattle.pg_base.specs.Limits.{most_script_bytes, most_document_bytes, most_variables_bytes}
 use Rattle.pg_io.specs.Files.{Told}
 use Rattle.pg_io.specs.Streams.{Rose, Delivers}
 use Rattle.pg_io.specs.declared.streams.Failed.{Failed}
 use Rattle.rel_model.specs.declared.tables.Tables.{Tables}
 use Rattle.schema_build.specs.Sdl.{sdl_of}
 use Rattle.request_core.specs.Load.{Loads, IsLoadFault}
-use Rattle.request_core.specs.Answer.{IsAnswer, IsUnbuilt}
+use Rattle.request_core.specs.Request.{Request}
+use Rattle.request_core.specs.Answer.{IsAnswer}
 use Rattle.request_core.specs.declared.loading.LoadFault.{LoadFault}
-use Rattle.graphile_prog.specs.Told.{Outside, Output, IfHeld, IfBothHeld, RoseAlone}
+use Rattle.graphile_prog.specs.Told.{Outside, Output, IfHeld, IfAllHeld, RoseAlone}
 use Rattle.graphile_prog.specs.Stages.{Stage, Because}
-use Rattle.graphile_prog.specs.Words.{Command, check, schema, query}
-use Rattle.graphile_prog.specs.declared.status.Form.TheVariants as form
+use Rattle.graphile_prog.specs.Words.{Command, check, schema, query, Query}
 use Rattle.graphile_prog.specs.declared.status.Status.{Status}
 use Rattle.graphile_prog.specs.declared.status.Status.TheVariants as status
 
@@ -22,15 +22,6 @@ use Rattle.graphile_prog.specs.declared.status.Status.TheVariants as status
 -- a script that gives some catalog and tables
 abbrev pub IsSomeScript : List ℕ → Type 0
 IsSomeScript script = (base : BaseParts) × (tables : Tables) × Loads script base tables
-
--- a document that has an answer over what the script gives, and one that has none
-abbrev pub IsAnswered : List ℕ → List ℕ → Type 0
-IsAnswered script document = (base : BaseParts) × (tables : Tables) × Loads script base tables
-    × (text : List ℕ) × IsAnswer base tables document text
-
-abbrev pub IsUnanswered : List ℕ → List ℕ → Type 0
-IsUnanswered script document = (base : BaseParts) × (tables : Tables) × Loads script base tables
-    × IsUnbuilt base document
 
 -- ---- the stages
 
@@ -62,13 +53,6 @@ IsRefusedBy script answered = (fault : LoadFault) × (answered ≡ status.Script
 abbrev pub script_stage : Told → Stage
 script_stage script = record { passed = IfHeld script IsSomeScript; refuses = IsRefused script }
 
--- the document has an answer over what the script gives
-abbrev pub document_stage : Told → Told → Stage
-document_stage script document = record {
-  passed = IfBothHeld script document IsAnswered;
-  refuses = Because (status.Unbuilt form.Document) (IfBothHeld script document IsUnanswered);
-}
-
 -- from a script's file to its catalog and tables
 abbrev pub script_stages : Outside → List ℕ → List Stage
 script_stages o script =
@@ -77,12 +61,20 @@ script_stages o script =
     ∷ script_stage (o.file script)
     ∷ []
 
-abbrev pub document_stages : Outside → List ℕ → List ℕ → List Stage
-document_stages o script document =
-    file_stage o document
-    ∷ size_stage (o.file document) most_document_bytes
-    ∷ document_stage (o.file script) (o.file document)
+-- the file of the variables, where one is named
+abbrev pub variables_stages : Outside → Option (List ℕ) → List Stage
+variables_stages o None = []
+variables_stages o (Some name) =
+    file_stage o name
+    ∷ size_stage (o.file name) most_variables_bytes
     ∷ []
+
+-- the other files of a query
+abbrev pub request_stages : Outside → Query → List Stage
+request_stages o q =
+    file_stage o q.document
+    ∷ size_stage (o.file q.document) most_document_bytes
+    ∷ variables_stages o q.variables
 
 -- ---- what is written
 
@@ -93,13 +85,13 @@ pub record IsSchemaText (text script : List ℕ) : Type 0 where
   pub loads : Loads script base tables
   pub shown : text ≡ sdl_of base.schema
 
--- the text is the response to the document over what the script gives, and LF
-pub record IsResponse (text script document : List ℕ) : Type 0 where
+-- the text is the response to the request over what the script gives, and LF
+pub record IsResponse (text script : List ℕ) (request : Request) : Type 0 where
   pub base : BaseParts
   pub tables : Tables
   pub response : List ℕ
   pub loads : Loads script base tables
-  pub answer : IsAnswer base tables document response
+  pub answer : IsAnswer base tables request response
   pub shown : text ≡ response ++ 10 ∷ []
 
 -- ---- commands
@@ -118,16 +110,20 @@ task_of o (schema script) = record {
   stages = script_stages o script;
   writes = λ text. IfHeld (o.file script) (IsSchemaText text);
 }
-task_of o (query script document) = record {
-  stages = script_stages o script ++ document_stages o script document;
-  writes = λ text. IfBothHeld (o.file script) (o.file document) (IsResponse text);
+task_of o (query q) = record {
+  stages = script_stages o q.script ++ request_stages o q;
+  writes = λ text. IfAllHeld o q (IsResponse text);
 }
+
+abbrev pub given_files : Option (List ℕ) → List (List ℕ)
+given_files None = []
+given_files (Some name) = name ∷ []
 
 -- the names of a command's files
 abbrev pub files_of : Command → List (List ℕ)
 files_of (check script) = script ∷ []
 files_of (schema script) = script ∷ []
-files_of (query script document) = script ∷ document ∷ []
+files_of (query q) = q.script ∷ q.document ∷ given_files q.variables
 
 -- ---- the end
 

@@ -1,17 +1,17 @@
 -- What the parts of a command owe to one another.
-use Rattle.std.specs.Prelude.{◌≡◌, ◌≢◌, ℕ, ◌⊎◌, ◌≤◌, Bool, if◌then◌else◌, List, [], ◌∷◌, ◌++◌, length}
+use Rattle.std.specs.Prelude.{◌≡◌, ◌≢◌, ℕ, ◌⊎◌, ◌≤◌, Bool, if◌then◌else◌, List, [], ◌∷◌, ◌++◌, length, Option, Some, None}
 use Rattle.pg_base.specs.Base.{BaseParts}
-use Rattle.pg_base.specs.Limits.{most_script_bytes, most_document_bytes}
+use Rattle.pg_base.specs.Limits.{most_script_bytes, most_document_bytes, most_variables_bytes}
 use Rattle.pg_io.specs.Files.{Told}
 use Rattle.rel_model.specs.declared.tables.Tables.{Tables}
 use Rattle.request_core.specs.Load.{Loads}
-use Rattle.request_core.specs.Answer.{IsAnswer, IsUnbuilt}
-use Rattle.graphile_prog.specs.Told.{Outside, IfHeld, CountsStay}
-use Rattle.graphile_prog.specs.Stages.{Stage, Because, ArePassed}
-use Rattle.graphile_prog.specs.Words.{Command}
-use Rattle.graphile_prog.specs.Commands.{file_stage, size_stage, task_of}
+use Rattle.request_core.specs.Request.{Request, asked}
+use Rattle.request_core.specs.Answer.{IsAnswer}
+use Rattle.graphile_prog.specs.Told.{Outside, IfHeld, IfGiven, IfAsked, CountsStay}
+use Rattle.graphile_prog.specs.Stages.{Stage, ArePassed}
+use Rattle.graphile_prog.specs.Words.{Command, Query}
+use Rattle.graphile_prog.specs.Commands.{file_stage, size_stage, variables_stages, request_stages, task_of}
 use Rattle.graphile_prog.specs.declared.commands.Page.{Page}
-use Rattle.graphile_prog.specs.declared.status.Form.TheVariants as form
 use Rattle.graphile_prog.specs.declared.status.Status.{Status}
 use Rattle.graphile_prog.specs.declared.status.Status.TheVariants as status
 
@@ -30,29 +30,36 @@ IsLoadedBy base tables bytes = (length bytes ≤ most_script_bytes) × Loads byt
 abbrev pub IsLoaded : Told → BaseParts → Tables → Type 0
 IsLoaded told base tables = IfHeld told (IsLoadedBy base tables)
 
--- the document's file has an answer over them
-abbrev pub HasAnswer : BaseParts → Tables → List ℕ → Type 0
-HasAnswer base tables document = (text : List ℕ) × IsAnswer base tables document text
+-- what was read of the file that is named, if one is
+abbrev pub IsGivenAs : Outside → Option (List ℕ) → Option (List ℕ) → Type 0
+IsGivenAs o None given = given ≡ None
+IsGivenAs o (Some name) given =
+    (bytes : List ℕ) × (given ≡ Some bytes) × IsRead (o.file name) most_variables_bytes bytes
 
-abbrev pub over_stage : Told → BaseParts → Tables → Stage
-over_stage told base tables = record {
-  passed = IfHeld told (HasAnswer base tables);
-  refuses = Because (status.Unbuilt form.Document) (IfHeld told (IsUnbuilt base));
-}
+-- ---- from a document's bytes on
 
-abbrev pub answer_stages : Outside → List ℕ → BaseParts → Tables → List Stage
-answer_stages o name base tables =
-    file_stage o name
-    ∷ size_stage (o.file name) most_document_bytes
-    ∷ over_stage (o.file name) base tables
-    ∷ []
+-- with the variables' file, where one is named
+abbrev pub IfBeside : Outside → Query → List ℕ → (Request → Type 0) → Type 0
+IfBeside o q document P = IfGiven o q.variables (λ variables. P (asked document q.operation variables))
 
--- the text answers the document's file over them
-abbrev pub AnswersBy : BaseParts → Tables → List ℕ → List ℕ → Type 0
-AnswersBy base tables text bytes = (length bytes ≤ most_document_bytes) × IsAnswer base tables bytes text
+-- the text answers the request of the document and the variables' file over them
+pub record IsAnsweredBeside (o : Outside) (q : Query) (base : BaseParts) (tables : Tables) (document text : List ℕ)
+    : Type 0 where
+  pub passed : ArePassed (variables_stages o q.variables)
+  pub answer : IfBeside o q document (λ request. IsAnswer base tables request text)
 
-abbrev pub IsAnsweredBy : Told → BaseParts → Tables → List ℕ → Type 0
-IsAnsweredBy told base tables text = IfHeld told (AnswersBy base tables text)
+-- ---- from a document's file on
+
+-- the text answers the request of both files over them
+pub record IsAnsweredBy (o : Outside) (q : Query) (base : BaseParts) (tables : Tables) (text : List ℕ) : Type 0 where
+  pub passed : ArePassed (request_stages o q)
+  pub answer : IfAsked o q (λ request. IsAnswer base tables request text)
+
+-- the same with LF
+pub record IsLineOf (o : Outside) (q : Query) (base : BaseParts) (tables : Tables) (text : List ℕ) : Type 0 where
+  pub response : List ℕ
+  pub answered : IsAnsweredBy o q base tables response
+  pub shown : text ≡ response ++ 10 ∷ []
 
 abbrev pub ending : Bool → List ℕ
 ending line_feed = if line_feed then 10 ∷ [] else []
@@ -75,7 +82,6 @@ abbrev pub Tells : Status → Status → Type 0
 Tells (status.ScriptRefused f) told = (told ≡ status.ScriptRefused f) ⊎ (told ≡ status.Memory)
 Tells status.Done told = told ≡ status.Done
 Tells status.BadWords told = told ≡ status.BadWords
-Tells (status.Unbuilt f) told = told ≡ status.Unbuilt f
 Tells status.FileFault told = told ≡ status.FileFault
 Tells status.WriteFault told = told ≡ status.WriteFault
 Tells status.TooLarge told = told ≡ status.TooLarge

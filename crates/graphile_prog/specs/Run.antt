@@ -21,7 +21,6 @@ abbrev pub HasLine : Status → Type 0
 HasLine status.Done = ⊥
 HasLine status.BadWords = ⊤
 HasLine (status.ScriptRefused f) = ⊤
-HasLine (status.Unbuilt f) = ⊤
 HasLine status.FileFault = ⊤
 HasLine status.WriteFault = ⊥
 HasLine status.TooLarge = ⊤

@@ -1,7 +1,6 @@
 -- The line and the exit status of each status.
 use Rattle.std.specs.Prelude.{ℕ, List, [], ◌∷◌, ◌++◌, codes}
 use Rattle.request_core.specs.FaultLines as fault
-use Rattle.graphile_prog.specs.declared.status.Form.TheVariants as form
 use Rattle.graphile_prog.specs.declared.status.Status.{Status}
 use Rattle.graphile_prog.specs.declared.status.Status.TheVariants as status
 
@@ -11,7 +10,6 @@ line_of status.Done = []
 line_of status.WriteFault = []
 line_of status.BadWords = codes "bad words\n"
 line_of (status.ScriptRefused f) = fault.line_of f ++ 10 ∷ []
-line_of (status.Unbuilt form.Document) = codes "not built: document\n"
 line_of status.FileFault = codes "file fault\n"
 line_of status.TooLarge = codes "too large\n"
 line_of status.Memory = codes "out of memory\n"
@@ -25,4 +23,3 @@ exit_of status.FileFault = 4
 exit_of status.WriteFault = 6
 exit_of status.TooLarge = 7
 exit_of status.Memory = 9
-exit_of (status.Unbuilt f) = 12

@@ -1,7 +1,9 @@
 -- What is told of the outside of a run, and what it counts.
-use Rattle.std.specs.Prelude.{◌≡◌, ℕ, List, Option, ⊤}
+use Rattle.std.specs.Prelude.{◌≡◌, ℕ, List, Option, Some, None, ⊤}
 use Rattle.pg_io.specs.Files.{Told, Untold, Absent, Holds, OthersStay}
 use Rattle.pg_io.specs.Streams.{Rose}
+use Rattle.request_core.specs.Request.{Request, asked}
+use Rattle.graphile_prog.specs.Words.{Query}
 
 -- what is told of the files of a run, and how often calls had failed for each name before it and have now
 pub record Outside : Type 0 where
@@ -29,9 +31,19 @@ IfHeld Untold P = ⊤
 IfHeld Absent P = ⊥
 IfHeld (Holds bytes) P = P bytes
 
--- this holds of the bytes of both files, where they are told
-abbrev pub IfBothHeld : Told → Told → (List ℕ → List ℕ → Type 0) → Type 0
-IfBothHeld one other P = IfHeld one (λ bytes. IfHeld other (P bytes))
+-- this holds of the bytes of the file that is named, where they are told; of none, where none is named
+abbrev pub IfGiven : Outside → Option (List ℕ) → (Option (List ℕ) → Type 0) → Type 0
+IfGiven o None P = P None
+IfGiven o (Some name) P = IfHeld (o.file name) (λ bytes. P (Some bytes))
+
+-- this holds of what a query's files ask, where they are told
+abbrev pub IfAsked : Outside → Query → (Request → Type 0) → Type 0
+IfAsked o q P = IfHeld (o.file q.document) (λ document.
+    IfGiven o q.variables (λ variables. P (asked document q.operation variables)))
+
+-- this holds of the script's bytes and of what the other files ask
+abbrev pub IfAllHeld : Outside → Query → (List ℕ → Request → Type 0) → Type 0
+IfAllHeld o q P = IfHeld (o.file q.script) (λ script. IfAsked o q (P script))
 
 -- the count of the name has risen, and no other
 pub record RoseAlone (o : Outside) (name : List ℕ) : Type 0 where

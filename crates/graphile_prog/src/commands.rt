@@ -1,25 +1,25 @@
 //! The commands: from the files that they name to the text that they write.
 
-ghost use Rattle.std.specs.Prelude.{◌≡◌, ◌⊎◌, ◌++◌, ◌∷◌, [], ℕ, List, IfOk, IfErr, OnOk};
+ghost use Rattle.std.specs.Prelude.{◌≡◌, ◌⊎◌, ◌++◌, ◌∷◌, [], ℕ, List, IfOk, IfErr, OnOk, option_map};
 ghost use Rattle.pg_base.specs.Base.{BaseParts};
 ghost use Rattle.rel_model.specs.Tables.{AreValidTables};
 ghost use Rattle.schema_build.specs.Sdl.{sdl_of};
 ghost use Rattle.request_core.specs.Load.{Loads, IsLoadFault};
-ghost use Rattle.request_core.specs.Answer.{IsAnswer, IsUnbuilt};
-ghost use Rattle.graphile_prog.specs.declared.status.Form.TheVariants as form_is;
+ghost use Rattle.request_core.specs.Request.{asked};
+ghost use Rattle.request_core.specs.Answer.{IsAnswer};
 ghost use Rattle.graphile_prog.specs.declared.status.Status.TheVariants as status_is;
 ghost use Rattle.graphile_prog.specs.Told.{outside, CountsStay};
-ghost use Rattle.graphile_prog.specs.Stages.{AreRefused, Because, OrMemory};
+ghost use Rattle.graphile_prog.specs.Stages.{AreRefused, OrMemory};
 ghost use Rattle.graphile_prog.specs.Words as words;
 ghost use Rattle.graphile_prog.specs.Commands as spec;
 ghost use Rattle.graphile_prog.specs.Parts as parts;
 
-use crate::status::{Form, Status};
-use crate::words::Command;
-use pg_base::limits::{MOST_DOCUMENT_BYTES, MOST_SCRIPT_BYTES};
+use crate::status::Status;
+use crate::words::{Command, Query};
+use pg_base::limits::{MOST_DOCUMENT_BYTES, MOST_SCRIPT_BYTES, MOST_VARIABLES_BYTES};
 use pg_base::{Blob, Schema};
 use pg_io::{FileFault, Files};
-use request_core::{LoadError, Loaded, Unanswered, answer_document, load};
+use request_core::{LoadError, Loaded, Request, answer_request, load};
 use schema_build::print_schema;
 use std::alloc::Global;
 
@@ -65,7 +65,7 @@ pub fn perform<F: Files>(alloc: Global, command: Command<'_>, files: &mut F) -> 
     match command {
         Command::Check(script) => check(alloc, script, files),
         Command::Schema(script) => schema(alloc, script, files),
-        Command::Query(script, document) => query(alloc, script, document, files),
+        Command::Query(asks) => query(alloc, asks, files),
     }
 }
 
@@ -125,29 +125,45 @@ fn schema_text(alloc: Global, schema: &Schema) -> Result<Blob, Status>
     }
 }
 
-/// The response to the document over what the script gives.
-fn query<F: Files>(
-    alloc: Global,
-    script: &str,
-    document: &str,
-    files: &mut F,
-) -> Result<Page, Status>
+/// The response to the request over what the script gives.
+fn query<F: Files>(alloc: Global, asks: Query<'_>, files: &mut F) -> Result<Page, Status>
     ensures ok { IfOk result (λ page. parts.IsPassed
         (outside (F.file files.old) (F.faults files.old) (F.faults files.new))
-        (words.query script.now document.now) (parts.written page)) }
-    ensures err { IfErr result (OrMemory (AreRefused (spec.script_stages
-        (outside (F.file files.old) (F.faults files.old) (F.faults files.new)) script.now
-        ++ spec.document_stages
+        (words.query (words.query_of asks.entry)) (parts.written page)) }
+    ensures err { IfErr result (OrMemory (AreRefused (spec.task_of
         (outside (F.file files.old) (F.faults files.old) (F.faults files.new))
-        script.now document.now))) }
+        (words.query (words.query_of asks.entry))).stages)) }
     ensures quiet { OnOk result (CountsStay (F.faults files.old) (F.faults files.new)) }
     ensures counts { IfErr result
         (parts.CountsStayBut (F.faults files.old) (F.faults files.new)) }
     ensures kept { (name : List ℕ) → F.file files.new name ≡ F.file files.old name }
 {
-    let loaded = load_file(alloc, script, files)?;
-    let text = answer_file(alloc, document, &loaded, files)?;
-    Ok(line(text))
+    let loaded = load_file(alloc, asks.script, files)?;
+    answer_page(alloc, asks, &loaded, files)
+}
+
+/// The line of the response to what the other files of a query ask.
+fn answer_page<F: Files>(
+    alloc: Global,
+    asks: Query<'_>,
+    loaded: &Loaded,
+    files: &mut F,
+) -> Result<Page, Status>
+    ensures ok { IfOk result (λ page. parts.IsLineOf
+        (outside (F.file files.old) (F.faults files.old) (F.faults files.new))
+        (words.query_of asks.entry) loaded.now.base loaded.now.tables (parts.written page)) }
+    ensures err { IfErr result (OrMemory (AreRefused (spec.request_stages
+        (outside (F.file files.old) (F.faults files.old) (F.faults files.new))
+        (words.query_of asks.entry)))) }
+    ensures quiet { OnOk result (CountsStay (F.faults files.old) (F.faults files.new)) }
+    ensures counts { IfErr result
+        (parts.CountsStayBut (F.faults files.old) (F.faults files.new)) }
+    ensures kept { (other : List ℕ) → F.file files.new other ≡ F.file files.old other }
+{
+    match answer_files(alloc, asks, loaded, files) {
+        Ok(text) => Ok(line(text)),
+        Err(status) => Err(status),
+    }
 }
 
 /// Reads the script's file, and loads it.
@@ -180,39 +196,108 @@ fn load_bytes(alloc: Global, script: &[u8]) -> Result<Loaded, Status>
     }
 }
 
-/// Reads the document's file, and answers it.
-fn answer_file<F: Files>(
+/// Reads the other files of a query, and answers what they ask.
+fn answer_files<F: Files>(
     alloc: Global,
-    name: &str,
+    asks: Query<'_>,
     loaded: &Loaded,
     files: &mut F,
 ) -> Result<Blob, Status>
-    ensures ok { IfOk result (parts.IsAnsweredBy (F.file files.old name.now)
-        loaded.now.base loaded.now.tables) }
-    ensures err { IfErr result (OrMemory (AreRefused (parts.answer_stages
+    ensures ok { IfOk result (parts.IsAnsweredBy
         (outside (F.file files.old) (F.faults files.old) (F.faults files.new))
-        name.now loaded.now.base loaded.now.tables))) }
+        (words.query_of asks.entry) loaded.now.base loaded.now.tables) }
+    ensures err { IfErr result (OrMemory (AreRefused (spec.request_stages
+        (outside (F.file files.old) (F.faults files.old) (F.faults files.new))
+        (words.query_of asks.entry)))) }
     ensures quiet { OnOk result (CountsStay (F.faults files.old) (F.faults files.new)) }
     ensures counts { IfErr result
         (parts.CountsStayBut (F.faults files.old) (F.faults files.new)) }
     ensures kept { (other : List ℕ) → F.file files.new other ≡ F.file files.old other }
 {
-    let bytes = read_bytes(alloc, name, MOST_DOCUMENT_BYTES, files)?;
-    let text = answer_bytes(alloc, loaded, bytes.bytes())?;
+    let document = read_bytes(alloc, asks.document, MOST_DOCUMENT_BYTES, files)?;
+    let text = answer_beside(alloc, asks, loaded, document.bytes(), files)?;
     Ok(text)
 }
 
-/// Answers a document.
-fn answer_bytes(alloc: Global, loaded: &Loaded, document: &[u8]) -> Result<Blob, Status>
-    ensures ok { IfOk result (IsAnswer loaded.now.base loaded.now.tables document.now) }
-    ensures err { IfErr result (OrMemory (Because (status_is.Unbuilt form_is.Document)
-        (IsUnbuilt loaded.now.base document.now))) }
+/// Reads the variables' file, where one is named, and answers the request that it gives with a document.
+fn answer_beside<F: Files>(
+    alloc: Global,
+    asks: Query<'_>,
+    loaded: &Loaded,
+    document: &[u8],
+    files: &mut F,
+) -> Result<Blob, Status>
+    ensures ok { IfOk result (parts.IsAnsweredBeside
+        (outside (F.file files.old) (F.faults files.old) (F.faults files.new))
+        (words.query_of asks.entry) loaded.now.base loaded.now.tables document.now) }
+    ensures err { IfErr result (OrMemory (AreRefused (spec.variables_stages
+        (outside (F.file files.old) (F.faults files.old) (F.faults files.new))
+        (words.query_of asks.entry).variables))) }
+    ensures quiet { OnOk result (CountsStay (F.faults files.old) (F.faults files.new)) }
+    ensures counts { IfErr result
+        (parts.CountsStayBut (F.faults files.old) (F.faults files.new)) }
+    ensures kept { (other : List ℕ) → F.file files.new other ≡ F.file files.old other }
 {
-    match answer_document(alloc, &loaded.base, &loaded.tables, document) {
+    let variables = read_given(alloc, asks.variables, files)?;
+    let text = answer_given(alloc, loaded, document, asks.operation, variables.as_ref())?;
+    Ok(text)
+}
+
+/// Answers a document beside the bytes of variables, where there are some.
+fn answer_given(
+    alloc: Global,
+    loaded: &Loaded,
+    document: &[u8],
+    operation: Option<&str>,
+    variables: Option<&Blob>,
+) -> Result<Blob, Status>
+    ensures ok { IfOk result (IsAnswer loaded.now.base loaded.now.tables
+        (asked document.now (option_map (λ n. n.now) operation.entry)
+        (option_map (λ v. v.now) variables.entry))) }
+    ensures err { IfErr result (λ status. status ≡ status_is.Memory) }
+{
+    let request = Request {
+        document,
+        operation,
+        variables: bytes_of(variables),
+    };
+    match answer_request(alloc, &loaded.base, &loaded.tables, request) {
         Ok(text) => Ok(text),
-        Err(Unanswered::NotBuilt) => Err(Status::Unbuilt(Form::Document)),
-        Err(Unanswered::Memory) => Err(Status::Memory),
+        Err(_) => Err(Status::Memory),
     }
+}
+
+fn bytes_of(blob: Option<&Blob>) -> Option<&[u8]>
+    ensures { option_map (λ b. b.now) result ≡ option_map (λ v. v.now) blob.entry }
+{
+    match blob {
+        Some(blob) => Some(blob.bytes()),
+        None => None,
+    }
+}
+
+/// The bytes of the variables' file, where one is named.
+fn read_given<F: Files>(
+    alloc: Global,
+    name: Option<&str>,
+    files: &mut F,
+) -> Result<Option<Blob>, Status>
+    ensures ok { IfOk result (parts.IsGivenAs
+        (outside (F.file files.old) (F.faults files.old) (F.faults files.new))
+        (option_map (λ n. n.now) name.entry)) }
+    ensures err { IfErr result (OrMemory (AreRefused (spec.variables_stages
+        (outside (F.file files.old) (F.faults files.old) (F.faults files.new))
+        (option_map (λ n. n.now) name.entry)))) }
+    ensures quiet { OnOk result (CountsStay (F.faults files.old) (F.faults files.new)) }
+    ensures counts { IfErr result
+        (parts.CountsStayBut (F.faults files.old) (F.faults files.new)) }
+    ensures kept { (other : List ℕ) → F.file files.new other ≡ F.file files.old other }
+{
+    let Some(name) = name else {
+        return Ok(None);
+    };
+    let bytes = read_bytes(alloc, name, MOST_VARIABLES_BYTES, files)?;
+    Ok(Some(bytes))
 }
 
 /// The file's bytes, where they aren't too many.

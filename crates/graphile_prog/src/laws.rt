@@ -5,6 +5,7 @@ ghost use Rattle.pg_base.specs.Base.{BaseParts};
 ghost use Rattle.rel_model.specs.declared.tables.Tables.{Tables};
 ghost use Rattle.request_core.specs.Load.{Loads, IsLoadFault};
 ghost use Rattle.request_core.specs.declared.loading.LoadFault.{LoadFault};
+ghost use Rattle.request_core.specs.Request.{Request};
 ghost use Rattle.graphile_prog.specs.Commands.{IsResponse};
 
 /// A script gives one catalog, with its schema, and one table set.
@@ -23,10 +24,10 @@ pub fn script_has_no_fault()
         → ⊥ }
 {}
 
-/// A script and a document have one response.
+/// A script and a request have one response.
 pub fn files_have_one_response()
-    ensures { (script document text other : List ℕ)
-        → IsResponse text script document
-        → IsResponse other script document
+    ensures { (script text other : List ℕ) (request : Request)
+        → IsResponse text script request
+        → IsResponse other script request
         → text ≡ other }
 {}

@@ -15,10 +15,11 @@ use std::alloc::Global;
 
 /// Runs the command that the words ask for, and says how it ended.
 ///
-/// `check SCRIPT` writes `ok`, `schema SCRIPT` the text of the schema, `query SCRIPT DOC` the response to the document
-/// over the tables of the script; `ok` and the response are a line. The words are looked at first, then the script's
-/// file, its size, its text, its schema and its rows, then the document's file, its size and its form: the first that is
-/// refused gives the status, whose line is written.
+/// `check SCRIPT` writes `ok`, `schema SCRIPT` the text of the schema, and
+/// `query SCRIPT DOC [--operation NAME] [--variables FILE]` the response to the request over the tables of the script;
+/// `ok` and the response are a line. The words are looked at first, then the script's file, its size, its text, its
+/// schema and its rows, then the document's file and its size, then those of the variables: the first that is refused
+/// gives the status, whose line is written.
 pub fn run_once<F: Files, S: Source, K: Sink>(
     alloc: Global,
     words: &[String],

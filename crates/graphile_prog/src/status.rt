@@ -7,12 +7,6 @@ ghost use Rattle.graphile_prog.specs.Status as spec;
 use request_core::LoadFault;
 use std::process::ExitCode;
 
-/// What has no form that is built yet.
-#[derive(Clone, Copy, Debug, PartialEq, Eq)]
-pub enum Form {
-    Document,
-}
-
 /// How a run ended.
 #[derive(Drop)]
 pub enum Status {
@@ -22,8 +16,6 @@ pub enum Status {
     BadWords,
     /// The script gives nothing, by this fault.
     ScriptRefused(LoadFault),
-    /// The document is in no form that is built yet.
-    Unbuilt(Form),
     /// A file could not be read.
     FileFault,
     /// The sink failed.
@@ -47,7 +39,6 @@ impl Status {
             Status::WriteFault => 6,
             Status::TooLarge => 7,
             Status::Memory => 9,
-            Status::Unbuilt(_) => 12,
         })
     }
 }

@@ -10,7 +10,7 @@ ghost use Rattle.graphile_prog.specs.Status.{line_of};
 ghost use Rattle.graphile_prog.specs.Told.{output};
 
 use crate::commands::Page;
-use crate::status::{Form, Status};
+use crate::status::Status;
 use pg_base::Memory;
 use pg_io::{Failed, Sink, write_all};
 use request_core::{LoadFault, put_fault_line};
@@ -64,13 +64,6 @@ pub fn tell<K: Sink>(alloc: Global, sink: &mut K, status: Status) -> Status
         Status::WriteFault => Status::WriteFault,
         Status::BadWords => tell_line(sink, Status::BadWords, b"bad words\n"),
         Status::ScriptRefused(fault) => tell_fault(alloc, sink, fault),
-        Status::Unbuilt(Form::Document) => {
-            tell_line(
-                sink,
-                Status::Unbuilt(Form::Document),
-                b"not built: document\n",
-            )
-        }
         Status::FileFault => tell_line(sink, Status::FileFault, b"file fault\n"),
         Status::TooLarge => tell_line(sink, Status::TooLarge, b"too large\n"),
         Status::Memory => tell_memory(sink),

@@ -41,19 +41,45 @@ query t.sql q.graphql | CREATE TABLE t (id serial PRIMARY KEY, s text DEFAULT 'd
 query t.sql q.graphql | CREATE TYPE e AS ENUM ('x-y'); CREATE TABLE "T" (b boolean, c e); INSERT INTO "T" VALUES (true, 'x-y'), (NULL, NULL); | { allTs { nodes { c __typename b } } } |  |  => Done {"data":{"allTs":{"nodes":[{"c":"X_Y","__typename":"T","b":true},{"c":null,"__typename":"T","b":null}]}}}$
 query t.sql q.graphql | . |  |  |  => Done {"errors":[{"message":"document syntax fault","locations":[{"line":1,"column":1}]}]}$
 query t.sql q.graphql | . | { % |  |  => Done {"errors":[{"message":"document lexical fault","locations":[{"line":1,"column":3}]}]}$
-query t.sql q.graphql | . | { allTs { nodes { x } } } |  |  => Unbuilt not built: document$
-query t.sql q.graphql | . | { allTs { nodes { s s } } } |  |  => Unbuilt not built: document$
-query t.sql q.graphql | . | { a: allTs { nodes { s } } } |  |  => Unbuilt not built: document$
-query t.sql q.graphql | . | query Q { allTs { nodes { s } } } |  |  => Unbuilt not built: document$
-query t.sql q.graphql | . | { allTs { nodes { s @skip(if: true) } } } |  |  => Unbuilt not built: document$
-query t.sql q.graphql | . | { allTs(first: 1) { nodes { s } } } |  |  => Unbuilt not built: document$
-query t.sql q.graphql | . | { allTs { totalCount } } |  |  => Unbuilt not built: document$
-query t.sql q.graphql | . | { allTs { nodes } } |  |  => Unbuilt not built: document$
-query t.sql q.graphql | . | { allTs { nodes { s { s } } } } |  |  => Unbuilt not built: document$
+query t.sql q.graphql | . | { allTs { nodes { x } } } |  |  => Done {"errors":[{"message":"rule 5.3.1: field selections","locations":[{"line":1,"column":19}]}]}$
+query t.sql q.graphql | . | { allTs { nodes { s s } } } |  |  => Done {"data":{"allTs":{"nodes":[{"s":"b"},{"s":null}]}}}$
+query t.sql q.graphql | . | query Q { a: allTs(first: 1) { totalCount nodes { s @skip(if: true) id } } } |  |  => Done {"data":{"a":{"totalCount":2,"nodes":[{"id":2}]}}}$
+query t.sql q.graphql | . | { allTs(first: -1) { totalCount } } |  |  => Done {"errors":[{"message":"first is negative","locations":[{"line":1,"column":3}],"path":["allTs"]}],"data":{"allTs":null}}$
+query t.sql q.graphql | . | mutation { deleteTById(input: {id: 1}) { t { id } } } |  |  => Done {"errors":[{"message":"mutations are not built"}]}$
+query t.sql q.graphql --variables none | . | { |  |  => FileFault file fault$
+query t.sql none --variables none | . | { |  |  => FileFault file fault$
+query t.sql q.graphql --variables | . | . |  |  => BadWords bad words$
+query t.sql q.graphql --operation -A | . | . |  |  => BadWords bad words$
+query t.sql q.graphql --variables v.json --operation A | . | . |  |  => BadWords bad words$
+query t.sql q.graphql --operation A --operation A | . | . |  |  => BadWords bad words$
+check t.sql --operation A | . | . |  |  => BadWords bad words$
 query t.sql q.graphql | . | . | 1 |  => FileFault file fault$
 query t.sql q.graphql | . | . | 2 |  => FileFault file fault$
 query t.sql none | . | . |  |  => FileFault file fault$
 query t.sql q.graphql | . | . |  | 2 => WriteFault {"data":{"allTs":{"nodes":[{"s":"b","id":2},{"s":null,"id":1}]}}}"#;
+
+/// Tables for requests.
+const BLOG: &str = "
+CREATE TABLE users (id serial PRIMARY KEY, name text NOT NULL, email text UNIQUE);
+INSERT INTO users (name, email) VALUES ('Ann', 'ann@x'), ('Bob', NULL);";
+
+/// Options, a document, the file of variables, and a refusal: its message and where it stands.
+const REFUSALS: &str = r#"
+ | fragment F on User { id } |  => rule 5.5.1.4: fragments must be used at 1,1
+ | { allUsers(first: 2147483648) { totalCount } } |  => rule 5.6.1: values of correct type at 1,19
+ | query($n: Int!) { allUsers(first: $n) { totalCount } } |  => variable $n: missing at 1,7
+--variables v.json | query($n: Int!) { allUsers(first: $n) { totalCount } } | null => variable $n: missing at 1,7
+--variables v.json | query($n: Int!) { allUsers(first: $n) { totalCount } } | {"n": null} => variable $n: null at 1,7
+--variables v.json | query($n: Int!) { allUsers(first: $n) { totalCount } } | {"n": "1"} => variable $n: wrong kind at 1,7
+--variables v.json | query($n: Int!) { allUsers(first: $n) { totalCount } } | {"n": 2147483648} => variable $n: out of range at 1,7
+--variables v.json | query($c: UserCondition) { allUsers(condition: $c) { totalCount } } | {"c": {"id": 1, "z": 1}} => variable $c: unknown input field at 1,7
+--variables v.json | { | [] => bad request body
+--variables v.json | { | {"n": 1 => bad request body
+--variables v.json | { | {} => document syntax fault at 1,2
+--operation B | query A { allUsers { x } } |  => rule 5.3.1: field selections at 1,22
+--operation B | query A($n: Int!) { allUsers(first: $n) { totalCount } } |  => no such operation
+ | query A { allUsers { totalCount } } query B { allUsers { totalCount } } |  => no such operation
+--operation B --variables v.json | query A { allUsers { totalCount } } query B($n: Int!) { allUsers(first: $n) { totalCount } } | {"n": true} => variable $n: wrong kind at 1,45"#;
 
 /// What a run wrote, and how it ended.
 #[derive(Drop)]
@@ -91,16 +117,41 @@ fn run(
     })
 }
 
+fn file_of(alloc: Global, name: &str, text: &str) -> Result<MemFile, Memory> {
+    Ok(MemFile {
+        name: Text::of(alloc, name)?,
+        bytes: Blob::of(Vec::from_slice(alloc, text.as_bytes())?),
+    })
+}
+
 /// The files `t.sql` and `q.graphql`.
 fn files_of(alloc: Global, script: &str, document: &str, fault: &str) -> Result<MemFiles, Memory> {
     let mut held = Items::new(alloc);
-    for (name, text) in [("t.sql", script), ("q.graphql", document)] {
-        held.push(MemFile {
-            name: Text::of(alloc, name)?,
-            bytes: Blob::of(Vec::from_slice(alloc, text.as_bytes())?),
-        })?;
-    }
+    held.push(file_of(alloc, "t.sql", script)?)?;
+    held.push(file_of(alloc, "q.graphql", document)?)?;
     Ok(MemFiles::of(alloc, held, failing(alloc, fault)?))
+}
+
+/// The files of a request.
+fn asking_files(alloc: Global, document: &str, variables: &str) -> Result<MemFiles, Memory> {
+    let mut held = Items::new(alloc);
+    held.push(file_of(alloc, "t.sql", BLOG)?)?;
+    held.push(file_of(alloc, "q.graphql", document)?)?;
+    held.push(file_of(alloc, "v.json", variables)?)?;
+    Ok(MemFiles::of(alloc, held, Vec::new(alloc)))
+}
+
+/// The response of a refusal, with its line feed: a message, and where it stands, if that follows.
+fn refusal_of(alloc: Global, refusal: &str) -> Result<String, Memory> {
+    match refusal.split_once(" at ") {
+        None => format!(in alloc; "Done {{\"errors\":[{{\"message\":\"{refusal}\"}}]}}$"),
+        Some((message, place)) => {
+            let (line, column) = place.split_once(",").unwrap_or(("", ""));
+            format!(in alloc;
+                "Done {{\"errors\":[{{\"message\":\"{message}\",\"locations\":[{{\"line\":{line},\"column\":{column}}}]}}]}}$"
+            )
+        }
+    }
 }
 
 fn name_of(status: &Status) -> &'static str {
@@ -108,7 +159,6 @@ fn name_of(status: &Status) -> &'static str {
         Status::Done => "Done ",
         Status::BadWords => "BadWords ",
         Status::ScriptRefused(_) => "ScriptRefused ",
-        Status::Unbuilt(_) => "Unbuilt ",
         Status::FileFault => "FileFault ",
         Status::WriteFault => "WriteFault ",
         Status::TooLarge => "TooLarge ",
@@ -145,6 +195,25 @@ fn each_status_has_its_row(rt: HostRuntime) -> Result<(), Fail> {
         assert_eq!(rt;
             shown(alloc, &ended)?.as_slice(),
             wanted.as_bytes(),
+            "{row}"
+        );
+    }
+    Ok(())
+}
+
+#[test]
+fn requests_are_refused_in_order(rt: HostRuntime) -> Result<(), Fail> {
+    let alloc = rt.alloc();
+    for row in REFUSALS.trim_start_matches('\n').lines() {
+        let (input, wanted) = row.split_once(" => ").ok_or("no arrow")?;
+        let (options, input) = input.split_once(" | ").ok_or("no document")?;
+        let (document, variables) = input.split_once(" | ").ok_or("no variables")?;
+        let words = format!(in alloc; "query t.sql q.graphql {options}")?;
+        let mut files = asking_files(alloc, document, variables)?;
+        let ended = run(alloc, words.as_str(), &mut files, "")?;
+        assert_eq!(rt;
+            shown(alloc, &ended)?.as_slice(),
+            refusal_of(alloc, wanted)?.as_bytes(),
             "{row}"
         );
     }
@@ -196,6 +265,30 @@ fn deep_long_and_large_documents_are_refused(rt: HostRuntime) -> Result<(), Fail
         let document = str::from_utf8(document.as_slice()).map_err(|_| "no text")?;
         let mut files = files_of(alloc, SCRIPT, document, "")?;
         let ended = run(alloc, "query t.sql q.graphql", &mut files, "")?;
+        assert_eq!(rt;
+            shown(alloc, &ended)?.as_slice(),
+            wanted.as_bytes(),
+            "{wanted}"
+        );
+    }
+    Ok(())
+}
+
+/// Spaces behind `{}` in a file of variables, and how the request ends.
+const VARIABLES: [(usize, &str); 2] = [
+    (1_048_574, r#"Done {"data":{"allUsers":{"totalCount":2}}}$"#),
+    (1_048_575, "TooLarge too large$"),
+];
+
+#[test]
+fn large_variables_are_refused(rt: HostRuntime) -> Result<(), Fail> {
+    let alloc = rt.alloc();
+    for (n, wanted) in VARIABLES {
+        let variables = repeated(alloc, "{}", " ", n)?;
+        let variables = str::from_utf8(variables.as_slice()).map_err(|_| "no text")?;
+        let mut files = asking_files(alloc, "{ allUsers { totalCount } }", variables)?;
+        let words = "query t.sql q.graphql --variables v.json";
+        let ended = run(alloc, words, &mut files, "")?;
         assert_eq!(rt;
             shown(alloc, &ended)?.as_slice(),
             wanted.as_bytes(),
