@@ -1,0 +1,9 @@
+pub mod Asked
+pub mod Home
+pub mod Kept
+pub mod KeptLists
+pub mod Needed
+pub mod Parts
+pub mod Repeats
+pub mod Steady
+pub mod Tested

@@ -1,0 +1,6 @@
+pub mod Constraints
+pub mod Laws
+pub mod Noted
+pub mod Path
+pub mod Same
+pub mod Tests

@@ -1,0 +1,14 @@
+pub mod Built
+pub mod Chains
+pub mod Check
+pub mod Denoted
+pub mod Filled
+pub mod Fitting
+pub mod Named
+pub mod Same
+pub mod Sent
+pub mod Serves
+pub mod Sound
+pub mod Under
+pub mod Values
+pub mod View
