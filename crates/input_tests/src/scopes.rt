@@ -21,6 +21,9 @@ const ROWS: &str = "\
 {...F}fragment F on Query{...F} => 16 at 27
 {...F}fragment F on Query{...G}fragment G on Query{...F} => 16 at 27
 {...F ...G}fragment F on Query{...G}fragment G on Query{...H}fragment H on Query{...G} => 16 at 57
+{__typename}fragment F on Query{...F} => 16 at 33
+{__typename}fragment F on Query{...G}fragment G on Query{...F} => 16 at 33
+{...F}fragment F on Query{...G}fragment G on Query{...H}fragment H on Query{...H} => 16 at 77
 {... on Person{__typename}} => 17 at 2
 {...F}fragment F on Person{__typename} => 17 at 2
 {allPeople{nodes{...F}}}fragment F on Person{name} => kept
@@ -69,6 +72,8 @@ query($a:[Int]){allPeople(first:$a){totalCount}} => 29 at 33
 query($a:PeopleOrderBy){allPeople(orderBy:$a){totalCount}} => 29 at 43
 query($a:[PeopleOrderBy!]){allPeople(orderBy:$a){totalCount}} => kept
 query($a:[PeopleOrderBy]){allPeople(orderBy:$a){totalCount}} => 29 at 45
+query($a:[PeopleOrderBy]=[NATURAL]){allPeople(orderBy:$a){totalCount}} => 29 at 55
+query($a:[[PeopleOrderBy!]!]){allPeople(orderBy:$a){totalCount}} => 29 at 49
 query A($a:Int){...F}query B($a:String){...F}fragment F on Query{allPeople(first:$a){totalCount}} => 29 at 82
 ";
 

@@ -1,6 +1,7 @@
-//! Large documents, which are valid.
+//! Large documents.
 
 use crate::sample::sample_schema;
+use gql_nodes::RuleError;
 use gql_reader::read_document;
 use gql_rules::check_document;
 use pg_base::Schema;
@@ -54,6 +55,13 @@ fn nested(alloc: Global, count: usize) -> Result<String, Fail> {
     Ok(text)
 }
 
+/// Two equal fields whose argument holds an object in an object, and so on.
+fn deep(alloc: Global, count: usize) -> Result<String, Fail> {
+    let opened = repeated(alloc, "allUsers(condition: {id: ", "{a: ", count, "1")?;
+    let field = repeated(alloc, opened.as_str(), "}", count, "}) { totalCount } ")?;
+    repeated(alloc, "{ ", field.as_str(), 2, "}")
+}
+
 fn is_valid(alloc: Global, schema: &Schema, text: &str) -> Result<bool, Fail> {
     let document = read_document(alloc, text.as_bytes())?;
     Ok(check_document(alloc, schema, &document).is_ok())
@@ -73,5 +81,19 @@ fn large_documents_are_valid(rt: HostRuntime) -> Result<(), Fail> {
     assert!(rt; is_valid(alloc, &schema, chain.as_str())?);
     let levels = nested(alloc, 12)?;
     assert!(rt; is_valid(alloc, &schema, levels.as_str())?);
+    Ok(())
+}
+
+#[test]
+fn deep_values_are_compared(rt: HostRuntime) -> Result<(), Fail> {
+    let alloc = rt.alloc();
+    let schema = sample_schema(alloc)?;
+    let text = deep(alloc, 58)?;
+    let document = read_document(alloc, text.as_bytes())?;
+    let Err(RuleError::Fault(fault)) = check_document(alloc, &schema, &document) else {
+        return Err(Fail::from("valid"));
+    };
+    assert_eq!(rt; fault.rule, 18);
+    assert_eq!(rt; fault.pos.column, 28);
     Ok(())
 }
