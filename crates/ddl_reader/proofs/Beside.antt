@@ -1,5 +1,5 @@
 -- A statement stops where its rows stop.
-use Rattle.std.proofs.Common.{◌≡◌, ℕ, List, ◌∙◌, ap, Ok, Err, Result}
+use Rattle.std.proofs.Common.{◌≡◌, ℕ, List, ◌∙◌, ap, Ok, Err}
 use Rattle.pg_base.specs.declared.enum_def.EnumDef.{EnumDef}
 use Rattle.parse_rules.specs.declared.error.ReadError.{ReadError}
 use Rattle.parse_rules.specs.declared.error.ReadError.TheVariants as errors

@@ -1,5 +1,5 @@
 -- The lexemes before a stop, as a loop collects them, and the first four of them, which tell of an INSERT all that is asked.
-use Rattle.std.proofs.Common.{◌≡◌, ℕ, zero, suc, ◌-◌, ◌+◌, ◌<◌, ◌≤◌, Bool, true, false, cond, ◌==◌, ◌&&◌, List, [], ◌∷◌, ◌++◌, length, take, Option, Some, None, refl, sym, ap, ◌∙◌, append_assoc, append-nil, arith}
+use Rattle.std.proofs.Common.{◌≡◌, ℕ, zero, suc, ◌-◌, ◌+◌, ◌<◌, ◌≤◌, Bool, true, false, cond, ◌==◌, ◌&&◌, List, [], ◌∷◌, ◌++◌, length, take, Some, None, refl, sym, ap, ◌∙◌, append_assoc, append-nil, arith}
 use Rattle.std.proofs.lemmas.Bool.{false≢true}
 use Rattle.std.proofs.lemmas.Bool.Decides.{nat_tests}
 use Rattle.pg_base.specs.declared.pos.Pos.{Pos}
@@ -7,7 +7,6 @@ use Rattle.parse_rules.specs.Tokens.{head, tail}
 use Rattle.ddl_reader.specs.declared.fault.ScriptFault.{ScriptFault}
 use Rattle.ddl_reader.specs.declared.fault.ScriptFault.TheVariants as fault
 use Rattle.ddl_reader.specs.declared.lexeme.Lexeme.{Lexeme}
-use Rattle.ddl_reader.specs.declared.word.Word.TheVariants as word
 use Rattle.ddl_reader.specs.Lexemes.{is_sign}
 use Rattle.ddl_reader.specs.Stops.{stands_at, lexemes_before, has_word, is_insert_name, insert_fault, is_a_name, last, is_refused_in_insert, bad_clause_at, back_from}
 

@@ -1,36 +1,23 @@
 -- What each parser reads is some tokens or none, and the items of lists are some.
-use Rattle.std.specs.Prelude.{ℕ, Bool, true, false, if◌then◌else◌, List, [], ◌∷◌, ◌++◌, Option, Some, None}
+use Rattle.std.specs.Prelude.{ℕ, true, false, List, [], ◌∷◌, ◌++◌, Option, Some, None}
 use Rattle.pg_base.specs.declared.pos.Pos.{Pos}
 use Rattle.pg_base.specs.declared.enum_def.EnumDef.{EnumDef}
-use Rattle.ddl_reader.specs.declared.lexeme.Lexeme.{Lexeme}
 use Rattle.ddl_reader.specs.declared.lexeme.LexemeKind.{LexemeKind}
 use Rattle.ddl_reader.specs.declared.lexeme.Expected.TheVariants as want
-use Rattle.ddl_reader.specs.declared.word.Word.{Word}
 use Rattle.ddl_reader.specs.declared.word.Word.TheVariants as word
-use Rattle.ddl_reader.specs.declared.script.Literal.{Literal}
 use Rattle.ddl_reader.specs.declared.script.Literal.TheVariants as literal_is
-use Rattle.ddl_reader.specs.declared.statement.Name.{Name}
-use Rattle.ddl_reader.specs.declared.statement.Statement.{Statement}
 use Rattle.ddl_reader.specs.declared.statement.Statement.TheVariants as statement_is
-use Rattle.ddl_reader.specs.declared.statement.Element.{Element}
 use Rattle.ddl_reader.specs.declared.statement.Element.TheVariants as element_is
-use Rattle.ddl_reader.specs.declared.statement.ColumnType.{ColumnType}
-use Rattle.ddl_reader.specs.declared.statement.ColumnRule.{ColumnRule}
-use Rattle.ddl_reader.specs.declared.statement.ColumnRuleKind.{ColumnRuleKind}
 use Rattle.ddl_reader.specs.declared.statement.ColumnRuleKind.TheVariants as column_rule_is
-use Rattle.ddl_reader.specs.declared.statement.Rule.{Rule}
-use Rattle.ddl_reader.specs.declared.statement.RuleKind.{RuleKind}
 use Rattle.ddl_reader.specs.declared.statement.RuleKind.TheVariants as rule_is
-use Rattle.ddl_reader.specs.declared.statement.Reference.{Reference}
-use Rattle.ddl_reader.specs.declared.statement.Target.{Target}
 use Rattle.ddl_reader.specs.declared.statement.Target.TheVariants as target_is
 use Rattle.ddl_reader.specs.declared.statement.Row.{Row}
 use Rattle.ddl_reader.specs.Lexemes.{is, is_a, is_the, is_word, is_sign, is_built_in}
 use Rattle.ddl_reader.specs.Trees.{named, is_public, is_length, length_type, built_in_type, stands_in, enum_type, is_enum, is_known_type, is_schema_of, literal_of, text_type, column_of, rule_of, column_rule_of, reference_of, table_statement, enum_statement, rule_statement, comment_statement, insert_statement, row_of}
-use Rattle.parse_rules.specs.Parser.{◌>>=◌, pure, expect, either, optional, while, separated, while_onto, skip_while, before}
+use Rattle.parse_rules.specs.Parser.{◌>>=◌, pure, expect, either, optional, while, before}
 use Rattle.parse_rules.specs.Exact.{Shortens, NeverLengthens}
 use Rattle.parse_rules.proofs.Separated.{expect-shortens}
-use Rattle.ddl_reader.specs.Reading.{Reader, choose, comma, opening, dot, a_sign, a_word, action, actions, alter, always, any, by_default, character, column_element, column_rule, column_rule_after, column_rules, column_target, column_type, columns, comment, comment_text, constraint_target, create, create_skipped, create_table, create_type, default, default_value, element, elements, foreign, generation, head, identifier, identifiers, identity, if_not_exists, insert, known_type, length_number, literal, name, named_column_rule, named_rule, negative, new_name, no_action, no_text, not_exists, not_null, only, optional_columns, optional_length, optional_only, other_row, other_rows, plain_enum, plain_name, primary, primary_key, qualified, qualified_column, qualified_enum, reference, refers, restrict, row, rows, rule, rule_after, rule_element, skipped, some_columns, some_text, string, strings, table_target, target, type_after, type_length, type_target, unique, unnamed_column_rule, unnamed_rule, value, values, varchar, varying}
+use Rattle.ddl_reader.specs.Reading.{choose, comma, opening, dot, a_sign, a_word, action, actions, alter, always, any, by_default, character, column_element, column_rule, column_rule_after, column_rules, column_target, column_type, columns, comment, comment_text, constraint_target, create, create_skipped, create_table, create_type, default, default_value, element, elements, foreign, generation, head, identifier, identifiers, identity, if_not_exists, insert, known_type, length_number, literal, name, named_column_rule, named_rule, negative, new_name, no_action, no_text, not_exists, not_null, only, optional_columns, optional_length, optional_only, other_row, other_rows, plain_enum, plain_name, primary, primary_key, qualified, qualified_column, qualified_enum, reference, refers, restrict, row, rows, rule, rule_after, rule_element, skipped, some_columns, some_text, string, strings, table_target, target, type_after, type_length, type_target, unique, unnamed_column_rule, unnamed_rule, value, values, varchar, varying}
 use Rattle.ddl_reader.proofs.Lengths.{keeps, keeps-pure, bind-shortens, bind-keeps, choose-keeps, choose-shortens, either-keeps, either-shortens, optional-keeps, while-keeps, separated-shortens, skip-keeps, before-keeps, onto-keeps}
 
 pub qualified-shortens : (place : Pos) → Shortens (qualified place)

@@ -1,7 +1,7 @@
 -- Parsers that shorten what is left, or don't lengthen it, whatever they are made of.
-use Rattle.std.proofs.Common.{◌≡◌, ℕ, zero, suc, ◌<◌, ◌≤◌, Bool, true, false, cond, List, [], ◌∷◌, ◌++◌, length, refl, sym, ap, ◌∙◌, arith, Ok, Err}
+use Rattle.std.proofs.Common.{ℕ, zero, suc, ◌≤◌, Bool, true, false, cond, List, [], ◌∷◌, ◌++◌, length, sym, ap, arith, Err}
 use Rattle.parse_rules.specs.Tokens.{sees, after_all}
-use Rattle.parse_rules.specs.Parser.{Outcome, Parser, and_then, ◌>>=◌, pure, expect, either, optional, while, while_from, separated, while_onto, skip_while, before}
+use Rattle.parse_rules.specs.Parser.{◌>>=◌, pure, either, optional, while, while_from, separated, while_onto, skip_while, before}
 use Rattle.parse_rules.specs.Exact.{Shortens, NeverLengthens}
 use Rattle.parse_rules.proofs.Outcomes.{done_is, done_not, and_then-ok}
 use Rattle.parse_rules.proofs.Separated.{next, next-shortens}

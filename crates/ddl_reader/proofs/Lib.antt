@@ -14,6 +14,7 @@ pub mod Fronts
 pub mod WithParts
 pub mod Apart
 pub mod Pairs
+pub mod FirstInserts
 pub mod ResolvedRows
 pub mod ScriptTurns
 pub mod OneScript

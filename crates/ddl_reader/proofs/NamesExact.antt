@@ -1,5 +1,5 @@
 -- The readers of names and of literals are exact for the grammar.
-use Rattle.std.proofs.Common.{◌≡◌, ℕ, Bool, true, false, List, [], ◌∷◌, refl, inr, Option, Some, None}
+use Rattle.std.proofs.Common.{List, [], ◌∷◌, refl, inr, Some, None}
 use Rattle.pg_base.specs.declared.pos.Pos.{Pos}
 use Rattle.parse_rules.specs.Exact.{Follow, Anything, Spelling}
 use Rattle.ddl_reader.specs.declared.lexeme.Lexeme.{Lexeme}

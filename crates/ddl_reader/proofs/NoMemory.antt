@@ -1,11 +1,10 @@
 -- The fault of a text is never want of memory.
-use Rattle.std.proofs.Common.{◌≡◌, ◌⊎◌, inl, inr, ℕ, Bool, true, false, cond, List, [], ◌∷◌, Result, Ok, Err, refl, sym, ◌∙◌}
+use Rattle.std.proofs.Common.{◌≡◌, inl, inr, ℕ, Bool, true, false, cond, List, [], ◌∷◌, Result, Ok, Err, ◌∙◌}
 use Rattle.std.specs.Prelude.{Option, None, Some, option_map}
 use Rattle.std.specs.Option.{option_or}
 use Rattle.pg_base.specs.Catalog.{CatalogParts}
 use Rattle.pg_base.specs.declared.table_def.TableDef.{TableDef}
 use Rattle.pg_catalog.specs.declared.fault.CatalogFault.{CatalogFault}
-use Rattle.pg_catalog.specs.declared.part.Part.{Part}
 use Rattle.pg_catalog.specs.Built.{catalog_after}
 use Rattle.pg_catalog.specs.Added.{is_target}
 use Rattle.pg_catalog.specs.Names.{table_of}
@@ -18,7 +17,7 @@ use Rattle.ddl_reader.specs.declared.statement.Statement.TheVariants as statemen
 use Rattle.ddl_reader.specs.declared.statement.InsertStatement.{InsertStatement}
 use Rattle.ddl_reader.specs.Lexemes.{lexemes}
 use Rattle.ddl_reader.specs.Parts.{enum_part, table_parts, rule_part, comment_part, commented_by, target_pos, target_name}
-use Rattle.ddl_reader.specs.Script.{of_parts, with_parts, has_no_effect, after_statement, columns_of, insert_fault, double_column, unknown_column, unknown_in, unknown_name, names_fault, first_fault, begins, read, IsScriptFault}
+use Rattle.ddl_reader.specs.Script.{of_parts, with_parts, has_no_effect, after_statement, insert_fault, double_column, unknown_in, unknown_name, names_fault, first_fault, begins, IsScriptFault}
 use Rattle.ddl_reader.specs.Scripts.{HaveFault}
 use Rattle.ddl_reader.proofs.StopFaults.{NotMemory, stop_not}
 use Rattle.ddl_reader.proofs.ScriptSentences.{script-fault}

@@ -1,5 +1,5 @@
 -- Lists whose items go together, place by place.
-use Rattle.std.proofs.Common.{◌≡◌, ℕ, zero, suc, List, [], ◌∷◌, ◌++◌, Option, Some, refl, subst}
+use Rattle.std.proofs.Common.{◌≡◌, ℕ, zero, suc, List, [], ◌∷◌, ◌++◌, Some, refl, subst}
 use Rattle.std.specs.List.{slice_get}
 use Rattle.pg_base.specs.Lists.{EachPair}
 

@@ -1,10 +1,9 @@
 -- A token that is looked at, and taken where it passes a test of its kind and text.
-use Rattle.std.proofs.Common.{◌≡◌, Bool, true, false, cond, List, [], ◌∷◌, Option, Some, None, Ok, Err, refl, sym, ap, ◌∙◌, subst}
+use Rattle.std.proofs.Common.{◌≡◌, Bool, true, false, List, [], ◌∷◌, Some, Ok, Err, sym, ap, ◌∙◌}
 use Rattle.parse_rules.specs.Tokens.{head, tail}
-use Rattle.parse_rules.specs.Parser.{Outcome, expect, and_then}
+use Rattle.parse_rules.specs.Parser.{expect}
 use Rattle.parse_rules.proofs.Outcomes.{done, expect-seen, expect-unseen}
 use Rattle.ddl_reader.specs.declared.lexeme.Lexeme.{Lexeme}
-use Rattle.ddl_reader.specs.Reading.{Reader}
 
 some_is : (a b : Lexeme) → Some a ≡ Some b → a ≡ b
 some_is a b e = cc

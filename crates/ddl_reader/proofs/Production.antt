@@ -1,8 +1,8 @@
 -- A production of the grammar and its parser: the parser is exact, and some lexemes are spelled before what may follow.
-use Rattle.std.proofs.Common.{◌≡◌, ◌≤◌, ◌<◌, ◌⊎◌, inl, inr, ℕ, Bool, true, false, List, [], ◌∷◌, ◌++◌, length, refl, sym, ap, subst, ◌∙◌, arith, Ok, Err}
+use Rattle.std.proofs.Common.{◌≡◌, inl, inr, ℕ, Bool, true, false, List, [], ◌∷◌, ◌++◌, refl, ap, ◌∙◌, arith, Ok}
 use Rattle.std.proofs.lemmas.Bool.{false≢true}
 use Rattle.parse_rules.specs.Tokens.{sees, no_brackets}
-use Rattle.parse_rules.specs.Rules.{Rule, pure_rule, token_rule, bind_rule, either_rule, optional_rule, while_rule, separated_rule, behind_rule}
+use Rattle.parse_rules.specs.Rules.{Rule, pure_rule, token_rule, bind_rule, either_rule, optional_rule, while_rule, separated_rule}
 use Rattle.parse_rules.specs.Parser.{◌>>=◌, pure, expect, either, optional, while, separated}
 use Rattle.parse_rules.specs.Exact.{Follow, Anything, IsExact, Spelling, Lowers, TakesToken, TakesAny, Shortens}
 use Rattle.parse_rules.proofs.Exact.{exact-takes_any, plain_lowers, pure_exact, bind_exact, bind_spelling, follow_exact, as_exact}

@@ -1,5 +1,5 @@
 -- Rows whose names are looked up.
-use Rattle.std.proofs.Common.{◌≡◌, ◌≢◌, ℕ, zero, suc, ◌<◌, ◌≤◌, min, not, List, [], ◌∷◌, ◌++◌, map, length, get_or, take, drop, find, reverse, ◌+◌, Option, None, Some, refl, sym, ap, subst, ◌∙◌, arith, append_assoc}
+use Rattle.std.proofs.Common.{◌≡◌, ◌≢◌, ℕ, zero, suc, ◌<◌, min, not, List, [], ◌∷◌, ◌++◌, length, get_or, take, drop, find, reverse, ◌+◌, Option, None, Some, refl, sym, ap, subst, ◌∙◌, arith, append_assoc}
 use Rattle.std.specs.List.{slice_get}
 use Rattle.std.specs.Option.{option_map, option_or}
 use Rattle.std.proofs.lemmas.List.{length-map, reverse-append}
@@ -19,6 +19,8 @@ use Rattle.ddl_reader.specs.declared.resolving.Destination.{Destination}
 use Rattle.ddl_reader.specs.Rows.{IsRowOf}
 use Rattle.ddl_reader.specs.Script.{row_columns, row_text, named_columns, columns_of, insert_fault, double_column, unknown_column, unknown_name, names_fault, first_fault, IsResolved}
 use Rattle.ddl_reader.specs.Compact.{below}
+use Rattle.ddl_reader.specs.declared.inserts.InsertPlace.{InsertPlace}
+use Rattle.ddl_reader.specs.Inserts.{moved, like, insert_of, inserts_in}
 use Rattle.ddl_reader.specs.Destinations.{destination, IsDestination, columns_by, row_into, IsRowInto}
 use Rattle.ddl_reader.proofs.Pairs.{pairs_get, pairs_map, pairs_more}
 
@@ -34,34 +36,42 @@ same_row place t i row = ap (λ (columns : List ℕ). row_made columns) (same_co
     row_made : List ℕ → RowText
     row_made columns = record { pos = row.pos; table = place; columns = columns; cells = row.cells }
 
-module _ (c : CatalogParts) (inserts : List InsertStatement) (destinations : List Destination) (found : EachPair (IsDestination c) inserts destinations) where
-  pub row_resolved : (row : Row) (made : RowText) → IsRowInto destinations row made → IsResolved c inserts row made
+-- the INSERT at a place
+get_insert : (firsts : List InsertStatement) (places : List InsertPlace) (n : ℕ) (place : InsertPlace) (first : InsertStatement) → slice_get places n ≡ Some place → slice_get firsts place.first ≡ Some first → slice_get (inserts_in firsts places) n ≡ Some (moved first place.pos)
+get_insert firsts [] n place first e f = absurd (cc)
+get_insert firsts (p ∷ places) zero place first e f =
+    let same : p ≡ place = cc in
+    ap (λ (q : InsertPlace). Some (insert_of firsts q)) same ∙ ap (λ (o : Option InsertStatement). Some (like o place.pos)) f
+get_insert firsts (p ∷ places) (suc n) place first e f = get_insert firsts places n place first e f
+
+module _ (c : CatalogParts) (firsts : List InsertStatement) (places : List InsertPlace) (destinations : List Destination) (found : EachPair (IsDestination c) firsts destinations) where
+  pub row_resolved : (row : Row) (made : RowText) → IsRowInto places destinations row made → IsResolved c (inserts_in firsts places) row made
   row_resolved row made h =
-      let at = pairs_get (IsDestination c) inserts destinations row.insert h.destination found h.written in
+      let at = pairs_get (IsDestination c) firsts destinations h.place.first h.destination found h.stands in
       record {
-        insert = at.0;
+        insert = moved at.0 h.place.pos;
         table = at.2.table;
         place = at.2.place;
-        written = at.1;
+        written = get_insert firsts places row.insert h.place at.0 h.written at.1;
         named = at.2.named;
         stands = at.2.stands;
-        is = h.is ∙ ap (λ (d : Destination). row_into d row) at.2.is ∙ same_row at.2.place at.2.table at.0 row;
+        is = h.is ∙ ap (λ (d : Destination). row_into d row) at.2.is ∙ same_row at.2.place at.2.table (moved at.0 h.place.pos) row;
       }
 
-  pub rows_resolved : (rows : List Row) (made : List RowText) → EachPair (IsRowInto destinations) rows made → EachPair (IsResolved c inserts) rows made
-  rows_resolved rows made h = pairs_map (IsRowInto destinations) (IsResolved c inserts) row_resolved rows made h
+  pub rows_resolved : (rows : List Row) (made : List RowText) → EachPair (IsRowInto places destinations) rows made → EachPair (IsResolved c (inserts_in firsts places)) rows made
+  rows_resolved rows made h = pairs_map (IsRowInto places destinations) (IsResolved c (inserts_in firsts places)) row_resolved rows made h
 
 -- ---- no fault
 
-both_none : {A : Type 0} (a b : Option A) → option_or a b ≡ None → (a ≡ None) × (b ≡ None)
+pub both_none : {A : Type 0} (a b : Option A) → option_or a b ≡ None → (a ≡ None) × (b ≡ None)
 both_none None b e = (refl, e)
 both_none (Some x) b e = absurd (cc)
 
-map_none : {A B : Type 0} (f : A → B) (o : Option A) → option_map f o ≡ None → o ≡ None
+pub map_none : {A B : Type 0} (f : A → B) (o : Option A) → option_map f o ≡ None → o ≡ None
 map_none f None e = refl
 map_none f (Some x) e = absurd (cc)
 
-no_fault_at : (c : CatalogParts) (inserts : List InsertStatement) (n : ℕ) (i : InsertStatement) → first_fault c inserts ≡ None → slice_get inserts n ≡ Some i → names_fault c i ≡ None
+pub no_fault_at : (c : CatalogParts) (inserts : List InsertStatement) (n : ℕ) (i : InsertStatement) → first_fault c inserts ≡ None → slice_get inserts n ≡ Some i → names_fault c i ≡ None
 no_fault_at c [] n i e at = absurd (cc)
 no_fault_at c (j ∷ inserts) zero i e at = let same : j ≡ i = cc in ap (names_fault c) (sym same) ∙ (both_none (names_fault c j) (first_fault c inserts) e).0
 no_fault_at c (j ∷ inserts) (suc n) i e at = no_fault_at c inserts n i (both_none (names_fault c j) (first_fault c inserts) e).1 at

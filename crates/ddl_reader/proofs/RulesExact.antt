@@ -1,5 +1,5 @@
 -- The readers of rules are exact for the grammar.
-use Rattle.std.proofs.Common.{◌≡◌, ℕ, Bool, true, false, ◌||◌, List, [], ◌∷◌, ◌++◌, length, refl, sym, ap, ◌∙◌, Option, Some, None, inl, inr}
+use Rattle.std.proofs.Common.{◌≡◌, ℕ, Bool, true, false, ◌||◌, List, [], ◌∷◌, refl, ap, Option, Some, None, inl, inr}
 use Rattle.std.proofs.lemmas.Bool.{false≢true}
 use Rattle.pg_base.specs.declared.pos.Pos.{Pos}
 use Rattle.parse_rules.specs.Tokens.{sees}
@@ -7,7 +7,6 @@ use Rattle.parse_rules.specs.Rules.{Rule, pure_rule, bind_rule}
 use Rattle.parse_rules.specs.Exact.{Follow, Anything, Spelling}
 use Rattle.ddl_reader.specs.declared.lexeme.Lexeme.{Lexeme}
 use Rattle.ddl_reader.specs.declared.lexeme.LexemeKind.{LexemeKind}
-use Rattle.ddl_reader.specs.declared.lexeme.LexemeKind.TheVariants as kind
 use Rattle.ddl_reader.specs.declared.lexeme.Expected.TheVariants as want
 use Rattle.ddl_reader.specs.declared.word.Word.TheVariants as word
 use Rattle.ddl_reader.specs.declared.statement.Name.{Name}
@@ -20,7 +19,7 @@ use Rattle.ddl_reader.specs.Lexemes.{is, is_a, is_word, is_column_rule_word, is_
 use Rattle.ddl_reader.specs.Trees.{column_rule_of, rule_of, reference_of}
 use Rattle.ddl_reader.specs.Reading.{no_action, restrict, action, actions, reference, always, by_default, generation, identity, not_null, primary, default, refers, column_rule_after, unnamed_column_rule, named_column_rule, column_rule, column_rules, primary_key, unique, foreign, rule_after, unnamed_rule, named_rule, rule}
 use Rattle.ddl_reader.specs.Grammar.{opening, dot, IsOptionalColumns, IsNoAction, IsRestrict, IsAction, IsActions, IsReference, IsAlways, IsByDefault, IsGeneration, IsIdentity, IsNotNull, IsPrimary, IsDefault, IsRefers, IsColumnRuleAfter, IsUnnamedColumnRule, IsNamedColumnRule, IsColumnRule, IsColumnRules, IsPrimaryKey, IsUnique, IsForeign, IsRuleAfter, IsUnnamedRule, IsNamedRule, IsRule}
-use Rattle.ddl_reader.proofs.Production.{Production, Not, some_of, some_word, nothing, token, token_begins, made, then_some, then_part, then_token, chosen, either_of, repeated, weaker}
+use Rattle.ddl_reader.proofs.Production.{Production, Not, some_word, nothing, token, token_begins, made, then_some, then_part, then_token, chosen, either_of, repeated, weaker}
 use Rattle.ddl_reader.proofs.NamesExact.{name_exact, identifier_exact, columns_exact, optional_columns_exact, literal_exact}
 use Rattle.ddl_reader.proofs.ItemLengths.{no_action-shortens, restrict-shortens, action-shortens, always-shortens, by_default-shortens, named_column_rule-shortens, unnamed_column_rule-shortens, column_rule-shortens, named_rule-shortens, unnamed_rule-shortens}
 

@@ -1,7 +1,7 @@
 -- The statements of a script, turn after turn.
 use Rattle.std.proofs.Common.{◌≡◌, ◌⊎◌, inl, inr, ℕ, zero, suc, ◌+◌, ◌-◌, ◌<◌, ◌≤◌, Bool, true, false, cond, List, [], ◌∷◌, length, Result, Ok, Err, refl, sym, ap, ◌∙◌, arith}
 use Rattle.parse_rules.specs.Tokens.{sees, after}
-use Rattle.parse_rules.specs.Parser.{Outcome, before, pure, ◌>>=◌}
+use Rattle.parse_rules.specs.Parser.{Outcome, before, ◌>>=◌}
 use Rattle.parse_rules.specs.Exact.{NeverLengthens}
 use Rattle.pg_base.specs.Catalog.{CatalogParts}
 use Rattle.pg_base.specs.declared.enum_def.EnumDef.{EnumDef}
@@ -14,7 +14,7 @@ use Rattle.ddl_reader.specs.declared.statement.Row.{Row}
 use Rattle.ddl_reader.specs.declared.statement.Statement.{Statement}
 use Rattle.ddl_reader.specs.declared.statement.Statement.TheVariants as statement_is
 use Rattle.ddl_reader.specs.Lexemes.{is, is_the, lexemes}
-use Rattle.ddl_reader.specs.Reading.{head, rows}
+use Rattle.ddl_reader.specs.Reading.{head}
 use Rattle.ddl_reader.specs.Statements.{rows_after, statement_with}
 use Rattle.ddl_reader.specs.Script.{progress, inserts_with, or_stop, after_statement, with_catalog, with_statement, step, goes_on, after_step, statements, begins, read}
 use Rattle.ddl_reader.proofs.Lengths.{keeps-pure, bind-keeps, before-keeps}

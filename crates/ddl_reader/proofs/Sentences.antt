@@ -5,7 +5,6 @@ use Rattle.parse_rules.specs.Parser.{Outcome}
 use Rattle.parse_rules.specs.Exact.{SameHead}
 use Rattle.parse_rules.proofs.Outcomes.{done_not}
 use Rattle.ddl_reader.specs.declared.lexeme.Lexeme.{Lexeme}
-use Rattle.ddl_reader.specs.declared.lexeme.LexemeKind.TheVariants as kind
 use Rattle.ddl_reader.specs.declared.statement.Row.{Row}
 use Rattle.ddl_reader.specs.declared.statement.Statement.{Statement}
 use Rattle.ddl_reader.specs.Grammar.{IsStatement}

@@ -1,11 +1,11 @@
 -- The reader of statements is exact for the grammar.
-use Rattle.std.proofs.Common.{◌≡◌, ℕ, ◌⊎◌, inl, inr, Bool, true, false, ◌==◌, ◌||◌, List, [], ◌∷◌, ◌++◌, refl, sym, ap, subst, ◌∙◌, Option, Some, None, Ok, Err, arith}
+use Rattle.std.proofs.Common.{◌≡◌, ℕ, ◌⊎◌, inl, inr, Bool, true, false, ◌==◌, ◌||◌, List, [], ◌∷◌, ◌++◌, refl, sym, ap, subst, ◌∙◌, None, arith}
 use Rattle.std.proofs.lemmas.Bool.{false≢true}
 use Rattle.std.proofs.lemmas.Bool.Decides.{nat_tests}
 use Rattle.pg_base.specs.declared.enum_def.EnumDef.{EnumDef}
 use Rattle.parse_rules.specs.Tokens.{sees, no_brackets}
 use Rattle.parse_rules.specs.Rules.{Rule, pure_rule, bind_rule, either_rule, before_rule}
-use Rattle.parse_rules.specs.Parser.{Outcome, and_then, ◌>>=◌, pure, either, before}
+use Rattle.parse_rules.specs.Parser.{◌>>=◌, pure, either, before}
 use Rattle.parse_rules.specs.Exact.{Follow, Anything, Spelling, Shortens, TakesToken}
 use Rattle.parse_rules.proofs.Exact.{as_exact, as_parser}
 use Rattle.parse_rules.proofs.Outcomes.{and_then-same, cond-and_then}
@@ -22,15 +22,15 @@ use Rattle.ddl_reader.specs.declared.statement.Statement.TheVariants as statemen
 use Rattle.ddl_reader.specs.Lexemes.{kind_is, is, is_a, is_the, is_last}
 use Rattle.ddl_reader.specs.Trees.{insert_statement, enum_statement, table_statement, rule_statement, comment_statement, row_of}
 use Rattle.ddl_reader.specs.declared.statement.Name.{Name}
-use Rattle.ddl_reader.specs.Reading.{Reader, a_word, name, optional_columns, any, create_skipped, create_type, create_table, create, skipped, alter, comment, insert, head, values, row, other_row, other_rows, rows}
-use Rattle.ddl_reader.specs.Grammar.{comma, opening, dot, word_rule, IsName, IsOptionalColumns, IsAny, IsCreateSkipped, IsCreateType, IsCreateTable, IsCreate, IsSkipped, IsAlter, IsComment, IsInsert, IsHead, IsValues, IsRow, IsOtherRow, IsOtherRows, IsRows, IsRowsAfter, IsStatement}
+use Rattle.ddl_reader.specs.Reading.{Reader, a_word, optional_columns, any, create_skipped, create, skipped, insert, head, values, row, other_row, other_rows, rows}
+use Rattle.ddl_reader.specs.Grammar.{comma, opening, dot, word_rule, IsOptionalColumns, IsAny, IsCreateSkipped, IsCreate, IsSkipped, IsAlter, IsComment, IsInsert, IsValues, IsRow, IsOtherRow, IsOtherRows, IsRows, IsRowsAfter, IsStatement}
 use Rattle.ddl_reader.specs.Statements.{rows_after, statement_with}
-use Rattle.ddl_reader.proofs.Production.{Production, Not, lowers, some_word, some_sign, nothing, takes, takes_any, token, token_begins, token_takes, made, then, then_some, then_part, then_token, then_token_takes, one_of, either_of, listed, repeated, weaker}
+use Rattle.ddl_reader.proofs.Production.{Production, Not, lowers, some_word, some_sign, nothing, token, token_begins, then, then_some, then_part, then_token, then_token_takes, one_of, either_of, listed, repeated}
 use Rattle.ddl_reader.proofs.NamesExact.{name_exact, optional_columns_exact, value_exact}
 use Rattle.ddl_reader.proofs.RulesExact.{ReferenceEnd}
 use Rattle.ddl_reader.proofs.TablesExact.{create_table_exact, create_type_exact, alter_exact, comment_exact}
 use Rattle.ddl_reader.proofs.Lengths.{bind-shortens, either-shortens}
-use Rattle.ddl_reader.proofs.ItemLengths.{create_skipped-shortens, create_type-shortens, create_table-shortens, create-shortens, skipped-shortens, alter-shortens, comment-shortens, insert-shortens, row-shortens, other_row-shortens}
+use Rattle.ddl_reader.proofs.ItemLengths.{create_skipped-shortens, create_type-shortens, create_table-shortens, create-shortens, skipped-shortens, alter-shortens, comment-shortens, insert-shortens, other_row-shortens}
 
 -- ---- what stands after a statement
 

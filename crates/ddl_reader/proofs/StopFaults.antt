@@ -8,8 +8,7 @@ use Rattle.ddl_reader.specs.declared.lexeme.Lexeme.{Lexeme}
 use Rattle.ddl_reader.specs.declared.lexeme.LexemeKind.{LexemeKind}
 use Rattle.ddl_reader.specs.declared.lexeme.LexemeKind.TheVariants as kind
 use Rattle.ddl_reader.specs.declared.word.Word.TheVariants as word
-use Rattle.ddl_reader.specs.Lexemes.{is_sign}
-use Rattle.ddl_reader.specs.Stops.{has_word, is_refused_in_insert, is_insert_name, back_from, bad_type, is_refused, other_schema, bad_type_at, bad_clause_at, fault_by_schema, fault_by_clause, fault_by_type, statement_fault, insert_fault, inner_fault, fault_at_kind, lexemes_before, stop_fault}
+use Rattle.ddl_reader.specs.Stops.{has_word, is_refused_in_insert, back_from, bad_type, is_refused, other_schema, bad_type_at, bad_clause_at, fault_by_schema, fault_by_clause, fault_by_type, statement_fault, insert_fault, inner_fault, fault_at_kind, lexemes_before, stop_fault}
 
 abbrev pub NotMemory : ScriptFault → Type 0
 NotMemory f = f ≡ fault.Memory → ⊥

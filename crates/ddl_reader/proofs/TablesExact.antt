@@ -1,5 +1,5 @@
 -- The readers of CREATE, ALTER and COMMENT are exact for the grammar.
-use Rattle.std.proofs.Common.{◌≡◌, ℕ, Bool, true, false, List, [], ◌∷◌, refl, Option, Some, None}
+use Rattle.std.proofs.Common.{◌≡◌, ℕ, true, false, List, [], refl, Some, None}
 use Rattle.pg_base.specs.declared.pos.Pos.{Pos}
 use Rattle.pg_base.specs.declared.enum_def.EnumDef.{EnumDef}
 use Rattle.parse_rules.specs.Tokens.{sees}
@@ -19,8 +19,8 @@ use Rattle.ddl_reader.specs.declared.statement.Target.TheVariants as target_is
 use Rattle.ddl_reader.specs.Lexemes.{is, is_a, is_the}
 use Rattle.ddl_reader.specs.Trees.{named, is_public, column_of, table_statement, enum_statement, rule_statement, comment_statement}
 use Rattle.ddl_reader.specs.Reading.{Reader, a_word, name, rule, rule_element, column_element, element, not_exists, if_not_exists, plain_name, new_name, elements, create_table, string, strings, create_type, only, optional_only, alter, table_target, qualified_column, column_target, constraint_target, type_target, target, no_text, some_text, comment_text, comment}
-use Rattle.ddl_reader.specs.Grammar.{comma, opening, dot, word_rule, IsName, IsRule, IsRuleElement, IsColumnElement, IsElement, IsNotExists, IsIfNotExists, IsPlainName, IsNewName, IsElements, IsCreateTable, IsString, IsStrings, IsCreateType, IsOnly, IsOptionalOnly, IsAlter, IsTableTarget, IsQualifiedColumn, IsColumnTarget, IsConstraintTarget, IsTypeTarget, IsTarget, IsNoText, IsSomeText, IsCommentText, IsComment}
-use Rattle.ddl_reader.proofs.Production.{Production, Not, some_of, some_word, some_sign, some_name, nothing, takes_any, takes, token, token_way, token_takes, token_begins, made, then, then_some, then_part, then_token, chosen, either_of, optionally, listed, weaker}
+use Rattle.ddl_reader.specs.Grammar.{comma, dot, word_rule, IsName, IsRule, IsRuleElement, IsColumnElement, IsElement, IsNotExists, IsIfNotExists, IsPlainName, IsNewName, IsElements, IsCreateTable, IsString, IsStrings, IsCreateType, IsOnly, IsOptionalOnly, IsAlter, IsTableTarget, IsQualifiedColumn, IsColumnTarget, IsConstraintTarget, IsTypeTarget, IsTarget, IsNoText, IsSomeText, IsCommentText, IsComment}
+use Rattle.ddl_reader.proofs.Production.{Production, Not, some_of, some_word, some_sign, some_name, nothing, takes_any, takes, token, token_way, token_takes, token_begins, made, then, then_some, then_token, chosen, either_of, optionally, listed, weaker}
 use Rattle.ddl_reader.proofs.NamesExact.{name_exact, name_way}
 use Rattle.ddl_reader.proofs.TypesExact.{TypeEnd, column_type_exact}
 use Rattle.ddl_reader.proofs.RulesExact.{ReferenceEnd, ColumnEnd, column_rules_exact, rule_exact, rule_begins}

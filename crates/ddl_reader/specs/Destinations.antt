@@ -3,6 +3,7 @@ use Rattle.std.specs.Prelude.{◌≡◌, ℕ, min, List, length, Option, None, S
 use Rattle.pg_base.specs.Catalog.{CatalogParts}
 use Rattle.pg_base.specs.declared.table_def.TableDef.{TableDef}
 use Rattle.pg_catalog.specs.Names.{place_of, places_of, table_names, column_names}
+use Rattle.ddl_reader.specs.declared.inserts.InsertPlace.{InsertPlace}
 use Rattle.ddl_reader.specs.declared.resolving.Destination.{Destination}
 use Rattle.ddl_reader.specs.declared.script.RowText.{RowText}
 use Rattle.ddl_reader.specs.declared.statement.Row.{Row}
@@ -40,8 +41,10 @@ row_into d row = record {
   cells = row.cells;
 }
 
--- the row goes to the destination of its INSERT
-pub record IsRowInto (destinations : List Destination) (row : Row) (made : RowText) : Type 0 where
+-- the row goes to the destination of its INSERT's first one
+pub record IsRowInto (places : List InsertPlace) (destinations : List Destination) (row : Row) (made : RowText) : Type 0 where
+  pub place : InsertPlace
   pub destination : Destination
-  pub written : slice_get destinations row.insert ≡ Some destination
+  pub written : slice_get places row.insert ≡ Some place
+  pub stands : slice_get destinations place.first ≡ Some destination
   pub is : made ≡ row_into destination row

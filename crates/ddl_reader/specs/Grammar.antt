@@ -1,6 +1,6 @@
 -- The grammar of scripts as rules: each production holds between the lexemes from its first on, those after it, and
 -- what it spells. What may be left out is told by the next lexeme.
-use Rattle.std.specs.Prelude.{◌≡◌, ◌⊎◌, ℕ, Bool, true, false, if◌then◌else◌, List, [], ◌∷◌, ◌++◌, Option, Some, None}
+use Rattle.std.specs.Prelude.{◌≡◌, ◌⊎◌, ℕ, Bool, true, false, List, [], ◌∷◌, ◌++◌, Option, Some, None}
 use Rattle.pg_base.specs.declared.pos.Pos.{Pos}
 use Rattle.pg_base.specs.declared.enum_def.EnumDef.{EnumDef}
 use Rattle.ddl_reader.specs.declared.lexeme.Lexeme.{Lexeme}

@@ -9,6 +9,8 @@ pub mod Statements
 pub mod Stops
 pub mod Sentences
 pub mod Parts
+pub mod InsertNames
 pub mod Script
 pub mod Scripts
+pub mod Inserts
 pub mod Destinations

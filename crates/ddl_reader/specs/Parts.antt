@@ -1,5 +1,5 @@
 -- What a statement adds to the catalog so far, part after part.
-use Rattle.std.specs.Prelude.{ℕ, ℤ, pos, neg_ℤ, ◌+◌, ◌-◌, ◌*◌, ◌^◌, Bool, true, false, not, ◌&&◌, ◌||◌, ◌==◌, nat_le, nat_lt, if◌then◌else◌, List, [], ◌∷◌, Option, Some, None, min, option_map, flat_map}
+use Rattle.std.specs.Prelude.{ℕ, pos, neg_ℤ, ◌+◌, ◌-◌, ◌*◌, ◌^◌, Bool, true, false, ◌||◌, ◌==◌, nat_le, nat_lt, if◌then◌else◌, List, [], ◌∷◌, Option, Some, None, min, option_map, flat_map}
 use Rattle.std.specs.List.{list_any}
 use Rattle.pg_base.specs.Tags.{no_tags}
 use Rattle.pg_base.specs.declared.tags.Tags.{Tags}

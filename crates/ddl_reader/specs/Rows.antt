@@ -1,5 +1,5 @@
 -- Rows as they are written, over a catalog.
-use Rattle.std.specs.Prelude.{◌≡◌, ℕ, ◌<◌, length, Some, slice_get}
+use Rattle.std.specs.Prelude.{◌≡◌, ◌<◌, length, Some, slice_get}
 use Rattle.pg_base.specs.Lists.{Each, AreDistinct}
 use Rattle.pg_base.specs.Catalog.{CatalogParts}
 use Rattle.pg_base.specs.declared.table_def.TableDef.{TableDef}

@@ -1,7 +1,6 @@
 -- What a script gives, and its first fault: statement by statement its tokens and its grammar, then its parts in order,
 -- and after the whole script the names of its INSERTs.
-use Rattle.std.specs.Prelude.{◌≡◌, ◌⊎◌, ℕ, zero, suc, Bool, not, ◌&&◌, if◌then◌else◌, List, [], ◌∷◌, ◌++◌, length, min, Option, Some, None, Result, Ok, Err, slice_get, option_map, find}
-use Rattle.std.specs.Option.{option_or}
+use Rattle.std.specs.Prelude.{◌≡◌, ◌⊎◌, ℕ, zero, suc, Bool, ◌&&◌, if◌then◌else◌, List, [], ◌∷◌, ◌++◌, length, min, Option, Some, None, Result, Ok, Err, slice_get}
 use Rattle.pg_base.specs.Lists.{EachPair}
 use Rattle.pg_base.specs.Catalog.{CatalogParts, names}
 use Rattle.pg_base.specs.declared.table_def.TableDef.{TableDef}
@@ -9,7 +8,7 @@ use Rattle.parse_rules.specs.Parser.{Outcome}
 use Rattle.pg_catalog.specs.declared.fault.CatalogFault.{CatalogFault}
 use Rattle.pg_catalog.specs.declared.part.Part.{Part}
 use Rattle.pg_catalog.specs.Built.{empty, catalog_after}
-use Rattle.pg_catalog.specs.Names.{place_of, places_of, table_of, table_names, column_names, stands, first_double}
+use Rattle.pg_catalog.specs.Names.{place_of, places_of, table_names, column_names, stands}
 use Rattle.pg_catalog.specs.Added.{is_target}
 use Rattle.pg_base.specs.declared.enum_def.EnumDef.{EnumDef}
 use Rattle.ddl_reader.specs.declared.reading.Progress.{Progress}
@@ -29,6 +28,7 @@ use Rattle.ddl_reader.specs.Statements.{statement_with}
 use Rattle.ddl_reader.specs.Parts.{enum_part, table_parts, rule_part, comment_part, commented_by, target_pos, target_name}
 use Rattle.ddl_reader.specs.Stops.{stop_fault}
 use Rattle.ddl_reader.specs.Compact.{below}
+pub use Rattle.ddl_reader.specs.InsertNames.{named_columns, columns_of, insert_fault, double_column, unknown_column, unknown_in, unknown_name, names_fault, first_fault}
 
 abbrev pub progress : CatalogParts → List InsertStatement → List Row → Progress
 progress c inserts rows = record { catalog = c; inserts = inserts; rows = rows }
@@ -142,44 +142,6 @@ after_step next (Ok (p, rest)) = goes_on next p rest
 unfoldable pub statements : ℕ → Progress → List Lexeme → Result Progress ScriptFault
 statements zero p ts = Ok p
 statements (suc n) p ts = after_step (statements n) (step p ts)
-
--- ---- the names of INSERTs
-
-abbrev pub named_columns : Option (List (List ℕ)) → List (List ℕ)
-named_columns None = []
-named_columns (Some names) = names
-
-abbrev pub columns_of : InsertStatement → List (List ℕ)
-columns_of i = named_columns i.columns
-
--- a fault of the catalog at the INSERT's table
-abbrev pub insert_fault : ℕ → InsertStatement → List ℕ → ScriptFault
-insert_fault which i name = fault.Catalog (record { which = which; pos = i.table.pos; name = name })
-
--- 2: a column is named twice
-abbrev pub double_column : InsertStatement → Option ScriptFault
-double_column i = option_map (insert_fault 2 i) (first_double (columns_of i))
-
--- 4: the table has no such column
-abbrev pub unknown_column : InsertStatement → TableDef → Option ScriptFault
-unknown_column i t = option_map (insert_fault 4 i) (find (λ name. not (stands (column_names t) name)) (columns_of i))
-
--- 3: no table has the name
-abbrev pub unknown_in : InsertStatement → Option TableDef → Option ScriptFault
-unknown_in i None = Some (insert_fault 3 i i.table.text)
-unknown_in i (Some t) = unknown_column i t
-
-abbrev pub unknown_name : CatalogParts → InsertStatement → Option ScriptFault
-unknown_name c i = unknown_in i (table_of c i.table.text)
-
--- the fault of an INSERT's names, of the least number
-abbrev pub names_fault : CatalogParts → InsertStatement → Option ScriptFault
-names_fault c i = option_or (double_column i) (unknown_name c i)
-
--- the first INSERT's that has one
-abbrev pub first_fault : CatalogParts → List InsertStatement → Option ScriptFault
-first_fault c [] = None
-first_fault c (i ∷ inserts) = option_or (names_fault c i) (first_fault c inserts)
 
 -- ---- rows
 

@@ -1,7 +1,7 @@
 -- The fault of a statement that stops: a type or a clause that isn't supported, or else a syntax fault. What would have
 -- fitted in the place of the stop is asked of the grammar: a text fits after a front where a statement that begins so
 -- doesn't stop before the text's end.
-use Rattle.std.specs.Prelude.{ℕ, ◌-◌, Bool, true, false, not, ◌&&◌, ◌||◌, ◌==◌, nat_lt, slice_get, unwrap_or, if◌then◌else◌, List, [], ◌∷◌, ◌++◌, length, take, drop, codes, Option, Some, None, Result, Ok, Err}
+use Rattle.std.specs.Prelude.{ℕ, ◌-◌, Bool, true, false, not, ◌&&◌, ◌||◌, ◌==◌, nat_lt, slice_get, unwrap_or, if◌then◌else◌, List, [], ◌∷◌, ◌++◌, length, take, drop, codes, Option, Some, None, Ok, Err}
 use Rattle.pg_base.specs.Pos.{start}
 use Rattle.pg_base.specs.declared.pos.Pos.{Pos}
 use Rattle.pg_base.specs.declared.enum_def.EnumDef.{EnumDef}

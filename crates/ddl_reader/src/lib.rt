@@ -9,6 +9,7 @@ mod constants;
 mod copies;
 mod fault;
 mod fitting;
+mod inserts;
 mod known;
 pub mod laws;
 mod lexeme;

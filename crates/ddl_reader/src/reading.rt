@@ -10,10 +10,11 @@ ghost use Rattle.ddl_reader.specs.Script as spec;
 
 use crate::adding::add_statement;
 use crate::fault::ScriptFault;
+use crate::inserts::Inserts;
 use crate::lexeme::Expected;
 use crate::resolving::resolved_rows;
 use crate::script::Script;
-use crate::statement::{InsertStatement, Row, Statement};
+use crate::statement::{Row, Statement};
 use crate::stops::fault_at;
 use crate::tokens::ScriptTokens;
 use crate::whole::read_statement;
@@ -27,7 +28,7 @@ use std::alloc::{AllocError, Global};
 #[derive(Drop)]
 pub(crate) struct Progress {
     catalog: Growing,
-    inserts: Items<InsertStatement>,
+    inserts: Inserts,
     rows: Items<Row>,
 }
 
@@ -72,10 +73,7 @@ fn next_statement(
 }
 
 /// Keeps an INSERT for the look-ups after the script.
-fn keep_insert(
-    inserts: &mut Items<InsertStatement>,
-    statement: Statement,
-) -> Result<(), ScriptFault>
+fn keep_insert(inserts: &mut Inserts, statement: Statement) -> Result<(), ScriptFault>
     ensures { spec.Keeps (spec.inserts_with inserts.old statement) result inserts.new }
 {
     match statement {
@@ -97,7 +95,7 @@ fn step(
     alloc: Global,
     tokens: &mut ScriptTokens<'_, '_>,
     catalog: Growing,
-    inserts: &mut Items<InsertStatement>,
+    inserts: &mut Inserts,
     rows: &mut Items<Row>,
 ) -> Result<Growing, ScriptFault>
     ensures { spec.Steps
@@ -116,7 +114,7 @@ fn read_statements(alloc: Global, bytes: &[u8]) -> Result<Progress, ScriptFault>
 {
     let mut tokens = ScriptTokens::new(bytes);
     let mut catalog = Growing::new(alloc);
-    let mut inserts = Items::new(alloc);
+    let mut inserts = Inserts::new(alloc);
     let mut rows = Items::new(alloc);
     for _turn in 0..bytes.len() + 2 {
         catalog = step(alloc, &mut tokens, catalog, &mut inserts, &mut rows)?;
@@ -139,7 +137,7 @@ fn read_statements(alloc: Global, bytes: &[u8]) -> Result<Progress, ScriptFault>
 fn script_of(
     alloc: Global,
     catalog: Growing,
-    inserts: &[InsertStatement],
+    inserts: &Inserts,
     rows: Items<Row>,
 ) -> Result<Script, ScriptFault>
     ensures fault { spec.Tells (spec.first_fault catalog inserts.now) result }
@@ -173,5 +171,5 @@ pub fn read_script(alloc: Global, bytes: &[u8]) -> Result<Script, ScriptFault>
         inserts,
         rows,
     } = read;
-    script_of(alloc, catalog, inserts.as_slice(), rows)
+    script_of(alloc, catalog, &inserts, rows)
 }

@@ -7,9 +7,11 @@ ghost use Rattle.pg_base.specs.Lists.{EachPair};
 ghost use Rattle.pg_catalog.specs.Names.{column_names, places_of};
 ghost use Rattle.ddl_reader.specs.Script as spec;
 ghost use Rattle.ddl_reader.specs.Destinations as kept;
+ghost use Rattle.ddl_reader.specs.Inserts.{inserts_in};
 
 use crate::columns::Columns;
 use crate::fault::ScriptFault;
+use crate::inserts::{InsertPlace, Inserts};
 use crate::known::{Known, first_double, names_in};
 use crate::script::RowText;
 use crate::statement::{InsertStatement, Row};
@@ -136,7 +138,7 @@ fn look_up(
     look_up_table(alloc, catalog, known, insert)
 }
 
-/// What each INSERT names, or the first fault.
+/// What each of these INSERTs names, or the first fault.
 fn look_up_all(
     alloc: Global,
     catalog: &Growing,
@@ -166,11 +168,18 @@ fn columns_for(into: &Destination, values: usize) -> Result<Columns, Memory>
 }
 
 /// A row, with the places of its table and columns.
-fn row_text(inserts: &[Destination], row: Row) -> Result<RowText, Memory>
-    ensures { IfOk result (kept.IsRowInto inserts.now row) }
+fn row_text(
+    places: &[InsertPlace],
+    destinations: &[Destination],
+    row: Row,
+) -> Result<RowText, Memory>
+    ensures { IfOk result (kept.IsRowInto places.now destinations.now row) }
 {
     let Row { pos, insert, cells } = row;
-    let Some(into) = at(inserts, insert) else {
+    let Some(place) = at(places, insert) else {
+        return Err(AllocError);
+    };
+    let Some(into) = at(destinations, place.first) else {
         return Err(AllocError);
     };
     let columns = columns_for(into, cells.len())?;
@@ -185,15 +194,17 @@ fn row_text(inserts: &[Destination], row: Row) -> Result<RowText, Memory>
 /// The rows, from the last on.
 fn rows_backwards(
     alloc: Global,
-    inserts: &[Destination],
+    places: &[InsertPlace],
+    destinations: &[Destination],
     rows: Items<Row>,
 ) -> Result<Sequence<RowText>, Memory>
-    ensures { IfOk result (λ made. EachPair (kept.IsRowInto inserts.now) rows (reverse made)) }
+    ensures { IfOk result (λ made.
+        EachPair (kept.IsRowInto places.now destinations.now) rows (reverse made)) }
 {
     let mut left = rows;
     let mut made = Sequence::new(alloc);
     while let Some(row) = left.pop() {
-        let text = row_text(inserts, row)?;
+        let text = row_text(places, destinations, row)?;
         made.push(text)?;
     }
     Ok(made)
@@ -208,18 +219,34 @@ fn reversed(rows: Sequence<RowText>) -> Sequence<RowText>
     Sequence::of(rows)
 }
 
+/// The rows of the INSERTs at these places, with the places of their tables and columns.
+fn rows_at(
+    alloc: Global,
+    catalog: &Growing,
+    firsts: &[InsertStatement],
+    places: &[InsertPlace],
+    rows: Items<Row>,
+) -> Result<Sequence<RowText>, ScriptFault>
+    ensures fault { spec.Tells (spec.first_fault catalog.now firsts.now) result }
+    ensures rows { IfOk result
+        (EachPair (spec.IsResolved catalog.now (inserts_in firsts.now places.now)) rows) }
+{
+    let found = look_up_all(alloc, catalog, firsts)?;
+    let backwards = rows_backwards(alloc, places, found.as_slice(), rows)?;
+    Ok(reversed(backwards))
+}
+
 /// The rows, with the places of their tables and columns.
 pub(crate) fn resolved_rows(
     alloc: Global,
     catalog: &Growing,
-    inserts: &[InsertStatement],
+    inserts: &Inserts,
     rows: Items<Row>,
 ) -> Result<Sequence<RowText>, ScriptFault>
     ensures fault { spec.Tells (spec.first_fault catalog.now inserts.now) result }
     ensures rows { IfOk result
         (EachPair (spec.IsResolved catalog.now inserts.now) rows) }
 {
-    let found = look_up_all(alloc, catalog, inserts)?;
-    let backwards = rows_backwards(alloc, found.as_slice(), rows)?;
-    Ok(reversed(backwards))
+    let firsts = inserts.firsts.as_slice();
+    rows_at(alloc, catalog, firsts, inserts.places.as_slice(), rows)
 }

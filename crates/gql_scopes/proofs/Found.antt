@@ -1,22 +1,17 @@
 -- What the search for each rule finds.
-use Rattle.std.proofs.Common.{◌≡◌, inl, inr, ℕ, zero, suc, ◌+◌, ◌<◌, ◌≤◌, Bool, true, false, not, nat_lt, List, [], ◌∷◌, Option, Some, None, length, get_or, take, refl, sym, ap, ◌∙◌, arith}
-use Rattle.std.specs.Prelude.{slice_get, find, option_map, IsTrue}
-use Rattle.std.specs.List.{list_any}
-use Rattle.std.proofs.lemmas.Bool.Decides.{nat_tests}
-use Rattle.pg_base.specs.Lists.{Each}
+use Rattle.std.proofs.Common.{◌≡◌, inl, inr, ℕ, zero, suc, ◌+◌, ◌<◌, ◌≤◌, Bool, true, List, [], ◌∷◌, Option, Some, None, length, get_or, take, refl, sym, ap, ◌∙◌, arith}
+use Rattle.std.specs.Prelude.{find, option_map, IsTrue}
 use Rattle.pg_base.specs.declared.pos.Pos.{Pos}
 use Rattle.pg_base.specs.Schema.{SchemaParts}
 use Rattle.gql_reader.specs.declared.tree.Document.{Document}
-use Rattle.gql_nodes.specs.Names.{is_among}
 use Rattle.gql_nodes.specs.Nodes.{At, nodes, pos_of}
 use Rattle.gql_nodes.specs.Reached.{IsIn}
 use Rattle.gql_nodes.specs.Rules.{IsFound}
 use Rattle.gql_nodes.proofs.Firsts.{found}
 use Rattle.gql_scopes.specs.declared.rule.ScopeRule.{ScopeRule}
 use Rattle.gql_scopes.specs.declared.rule.ScopeRule.TheVariants as rule
-use Rattle.gql_scopes.specs.SortFacts.{OfVariable}
-use Rattle.gql_scopes.specs.Tables.{TablesParts, AreTables, row}
-use Rattle.gql_scopes.specs.Tests.{test_of, is_unused_variable}
+use Rattle.gql_scopes.specs.Tables.{TablesParts, AreTables}
+use Rattle.gql_scopes.specs.Tests.{test_of}
 use Rattle.gql_scopes.specs.Scopes.{Breaks, number, all_rules}
 use Rattle.gql_scopes.specs.FragmentsMustBeUsed as fragments_must_be_used
 use Rattle.gql_scopes.specs.FragmentSpreadsMustNotFormCycles as cycles
@@ -37,56 +32,29 @@ use Rattle.gql_scopes.specs.DirectivesAreInValidLocations as directives_are_in_v
 use Rattle.gql_scopes.specs.DirectivesAreUniquePerLocation as directives_are_unique_per_location
 use Rattle.gql_scopes.specs.VariableUniqueness as variable_uniqueness
 use Rattle.gql_scopes.specs.VariablesAreInputTypes as variables_are_input_types
-use Rattle.gql_scopes.proofs.Membership.{each_at}
-use Rattle.gql_scopes.proofs.Relations.{unused_same, spreads_same, impossible_same, cycle_told, cycle_tells, uses_told, uses_tells, misuses_told, misuses_tells, unused_told, unused_tells, variable_unused_told, variable_unused_tells}
-use Rattle.gql_scopes.proofs.SortsTold.{variable_told, variable_tells}
+use Rattle.gql_nodes.proofs.Closures.{at_in}
+use Rattle.gql_scopes.proofs.Relations.{unused_same, spreads_same, impossible_same, cycle_told, cycle_tells, uses_told, uses_tells, misuses_told, misuses_tells, unused_told, unused_tells}
 
--- ---- a relation that is known of the nodes of the list alone
+-- ---- a test that tells of the nodes of the list alone
 
-module _ (list : List At) (n : ℕ) (each : Each (λ x. x.within < n) list) (A B : At → Type 0) (to : (x : At) → x.within < n → A x → B x) (from : (x : At) → x.within < n → B x → A x) where
-  within : (i : ℕ) (x : At) → slice_get list i ≡ Some x → x.within < n
-  within i x at = each_at (λ y. y.within < n) list i x each at
-
-  pub found_within : (r : Option Pos) → IsFound (λ i x. A x) list r → IsFound (λ i x. B x) list r
-  found_within None held = λ i x at b. held i x at (from x (within i x at) b)
-  found_within (Some pos) f = record {
+module _ (test : At → Bool) (list : List At) (B : At → Type 0) (told : (x : At) → IsIn list x → test x ≡ true → B x) (tells : (x : At) → IsIn list x → B x → test x ≡ true) where
+  turned : (r : Option Pos) → IsFound (λ i x. test x ≡ true) list r → IsFound (λ i x. B x) list r
+  turned None held = λ i x at b. held i x at (tells x (at_in list i x at) b)
+  turned (Some pos) f = record {
     place = f.place;
     node = f.node;
     first = record {
       stands = f.first.stands;
-      before = λ i x lt at b. f.first.before i x lt at (from x (within i x at) b);
-      broken = to f.node (within f.place f.node f.first.stands) f.first.broken;
+      before = λ i x lt at b. f.first.before i x lt at (tells x (at_in list i x at) b);
+      broken = told f.node (at_in list f.place f.node f.first.stands) f.first.broken;
     };
     stands = f.stands;
   }
 
-row_past : {A : Type 0} (rows : List (List A)) (w : ℕ) → length rows ≤ w → row rows w ≡ []
-row_past [] w le = refl
-row_past (y ∷ rows) zero le = absurd (omega arith)
-row_past (y ∷ rows) (suc w) le = row_past rows w (omega arith)
+  pub found_here : (r : Option Pos) → r ≡ option_map (λ x. pos_of x.node) (find test list) → IsFound (λ i x. B x) list r
+  found_here r e = turned r (found test (λ x. test x ≡ true) (λ x h. h) (λ x h. h) list r e)
 
 module _ (schema : SchemaParts) (document : Document) (tables : TablesParts) (t : AreTables document (nodes schema document) tables) where
-  -- the variable is unused, where there is a row for its definition
-  IsUnusedIf : At → Type 0
-  IsUnusedIf x = OfVariable (λ v. x.within < length tables.reached → used.IsUnused document (nodes schema document) x.within v.name) x.node
-
-  if_told : (x : At) → is_unused_variable tables x.within x.node ≡ true → OfVariable (λ v. x.within < length tables.reached → used.IsUnused document (nodes schema document) x.within v.name) x.node
-  if_told x h = variable_told (λ repeated v. not (list_any (λ place. is_among v.name (row tables.used place)) (row tables.reached x.within)))
-      (λ v. x.within < length tables.reached → used.IsUnused document (nodes schema document) x.within v.name)
-      (λ repeated v k. λ lt. variable_unused_told document (nodes schema document) tables t x.within v.name lt k) x.node h
-
-  if_tells_by : (b : Bool) (w : ℕ) (name : List ℕ) → nat_lt w (length tables.reached) ≡ b → (w < length tables.reached → used.IsUnused document (nodes schema document) w name)
-      → not (list_any (λ place. is_among name (row tables.used place)) (row tables.reached w)) ≡ true
-  if_tells_by true w name e f = let lt : w < length tables.reached = grind (arith, nat_tests, e) in variable_unused_tells document (nodes schema document) tables t w name lt (f lt)
-  if_tells_by false w name e f =
-      let le : length tables.reached ≤ w = grind (arith, nat_tests, e) in
-      ap (λ l. not (list_any (λ place. is_among name (row tables.used place)) l)) (row_past tables.reached w le)
-
-  if_tells : (x : At) → OfVariable (λ v. x.within < length tables.reached → used.IsUnused document (nodes schema document) x.within v.name) x.node → is_unused_variable tables x.within x.node ≡ true
-  if_tells x h = variable_tells (λ repeated v. not (list_any (λ place. is_among v.name (row tables.used place)) (row tables.reached x.within)))
-      (λ v. x.within < length tables.reached → used.IsUnused document (nodes schema document) x.within v.name)
-      (λ repeated v f. if_tells_by (nat_lt x.within (length tables.reached)) x.within v.name refl f) x.node h
-
   pub found_rule : (which : ScopeRule) (r : Option Pos) → r ≡ option_map (λ x. pos_of x.node) (find (test_of schema document tables which) (nodes schema document))
       → IsFound (Breaks schema document which) (nodes schema document) r
   found_rule rule.UniqueFragmentNames r e = found (test_of schema document tables rule.UniqueFragmentNames) (λ x. IsTrue (unique_fragment_names.breaks x.node)) (λ x h. h) (λ x h. h) (nodes schema document) r e
@@ -96,8 +64,8 @@ module _ (schema : SchemaParts) (document : Document) (tables : TablesParts) (t 
       (λ x h. sym (unused_same document (nodes schema document) tables t x.node) ∙ h) (λ x h. unused_same document (nodes schema document) tables t x.node ∙ h) (nodes schema document) r e
   found_rule rule.FragmentSpreadTargetDefined r e = found (test_of schema document tables rule.FragmentSpreadTargetDefined) (λ x. IsTrue (fragment_spread_target_defined.breaks document x.node))
       (λ x h. sym (spreads_same document (nodes schema document) tables t x.node) ∙ h) (λ x h. spreads_same document (nodes schema document) tables t x.node ∙ h) (nodes schema document) r e
-  found_rule rule.FragmentSpreadsMustNotFormCycles r e = found (test_of schema document tables rule.FragmentSpreadsMustNotFormCycles) (λ x. cycles.Breaks document (nodes schema document) x)
-      (λ x h. cycle_told document (nodes schema document) tables t x h) (λ x h. cycle_tells document (nodes schema document) tables t x h) (nodes schema document) r e
+  found_rule rule.FragmentSpreadsMustNotFormCycles r e = found_here (test_of schema document tables rule.FragmentSpreadsMustNotFormCycles) (nodes schema document) (λ x. cycles.Breaks document (nodes schema document) x)
+      (λ x at h. cycle_told document (nodes schema document) tables t x at h) (λ x at h. cycle_tells document (nodes schema document) tables t x at h) r e
   found_rule rule.FragmentSpreadIsPossible r e = found (test_of schema document tables rule.FragmentSpreadIsPossible) (λ x. IsTrue (fragment_spread_is_possible.breaks schema document x.node))
       (λ x h. sym (impossible_same document (nodes schema document) tables t schema x.node) ∙ h) (λ x h. impossible_same document (nodes schema document) tables t schema x.node ∙ h) (nodes schema document) r e
   found_rule rule.ValuesOfCorrectType r e = found (test_of schema document tables rule.ValuesOfCorrectType) (λ x. IsTrue (values_of_correct_type.breaks schema x.node)) (λ x h. h) (λ x h. h) (nodes schema document) r e
@@ -111,12 +79,8 @@ module _ (schema : SchemaParts) (document : Document) (tables : TablesParts) (t 
   found_rule rule.VariablesAreInputTypes r e = found (test_of schema document tables rule.VariablesAreInputTypes) (λ x. IsTrue (variables_are_input_types.breaks schema x.node)) (λ x h. h) (λ x h. h) (nodes schema document) r e
   found_rule rule.AllVariableUsesDefined r e = found (test_of schema document tables rule.AllVariableUsesDefined) (λ x. defined.Breaks document (nodes schema document) x)
       (λ x h. uses_told document (nodes schema document) tables t x h) (λ x h. uses_tells document (nodes schema document) tables t x h) (nodes schema document) r e
-  found_rule rule.AllVariablesUsed r e = found_within (nodes schema document) (length tables.reached) t.placed
-      (λ x. OfVariable (λ v. x.within < length tables.reached → used.IsUnused document (nodes schema document) x.within v.name) x.node)
-      (λ x. used.Breaks document (nodes schema document) x)
-      (λ x lt a. unused_told document (nodes schema document) tables t x lt (if_tells x a))
-      (λ x lt b. if_told x (unused_tells document (nodes schema document) tables t x lt b)) r
-      (found (test_of schema document tables rule.AllVariablesUsed) (λ x. OfVariable (λ v. x.within < length tables.reached → used.IsUnused document (nodes schema document) x.within v.name) x.node) if_told if_tells (nodes schema document) r e)
+  found_rule rule.AllVariablesUsed r e = found_here (test_of schema document tables rule.AllVariablesUsed) (nodes schema document) (λ x. used.Breaks document (nodes schema document) x)
+      (λ x at h. unused_told document (nodes schema document) tables t x at h) (λ x at h. unused_tells document (nodes schema document) tables t x at h) r e
   found_rule rule.AllVariableUsagesAreAllowed r e = found (test_of schema document tables rule.AllVariableUsagesAreAllowed) (λ x. allowed.Breaks schema document (nodes schema document) x)
       (λ x h. misuses_told document (nodes schema document) tables t schema x h) (λ x h. misuses_tells document (nodes schema document) tables t schema x h) (nodes schema document) r e
 

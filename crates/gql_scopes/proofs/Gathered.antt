@@ -1,6 +1,6 @@
 -- What is gathered from nodes, one node after the other.
 use Rattle.std.proofs.Common.{◌≡◌, inl, inr, ℕ, zero, suc, ◌+◌, ◌<◌, ◌≤◌, Bool, true, false, ◌&&◌, ◌||◌, ◌==◌, cond, List, [], ◌∷◌, ◌++◌, Option, Some, None, length, get_or, take, drop, map, refl, sym, ap, subst, ◌∙◌, arith, append_assoc, add-one, true≢false}
-use Rattle.std.specs.Prelude.{slice_get, filter, filter_map, find, option_map, option_and_then, if◌then◌else◌}
+use Rattle.std.specs.Prelude.{slice_get, unwrap_or, filter, filter_map, find, option_map, option_and_then, if◌then◌else◌}
 use Rattle.std.specs.List.{list_any, cons_option}
 use Rattle.std.specs.Str.{bytes_eq}
 use Rattle.std.proofs.lemmas.Slice.Eq.{bytes_eq-Decides}
@@ -18,7 +18,8 @@ use Rattle.gql_nodes.specs.Reached.{IsIn, starts, goes_on, ReachedBy, IsClosure}
 use Rattle.gql_nodes.specs.Uses.{fragment_place, as_fragment, is_named, place_from, as_operation, spread_name, spread_names, used_name, used_names, nodes_within, targets}
 use Rattle.gql_nodes.proofs.Closures.{before_or_at, some_same}
 use Rattle.gql_scopes.specs.Conditions.{if_some}
-use Rattle.gql_scopes.specs.Tables.{row, target_of, targets_in, variable_from, TellsVariables}
+use Rattle.gql_scopes.specs.Ranks.{HasNoCycle}
+use Rattle.gql_scopes.specs.Tables.{row, is_marked, is_variable, declares, target_of, targets_in, variable_from, TellsVariables}
 
 -- ---- booleans
 
@@ -170,6 +171,32 @@ module _ (nodes : List code_at.At) (i : ℕ) (x : code_at.At) (lt : i < length n
       ∙ sym (ap (λ l. found ++ l) (targets_step places p))
       ∙ before
 
+  -- ---- marks, place by place
+
+  declares_step : (p : ℕ) → declares (views (drop i nodes)) p ≡ (((x.within == p) && is_variable (at_view x).node) || declares (views (drop (i + 1) nodes)) p)
+  declares_step p = ap (λ l. declares l p) views_step
+
+  pub mark_skipped : (old : Bool) (p : ℕ) (due : Bool) → is_variable (at_view x).node ≡ false
+      → (old || declares (views (drop i nodes)) p) ≡ due → (old || declares (views (drop (i + 1) nodes)) p) ≡ due
+  mark_skipped old p due none before =
+      let rest = declares (views (drop (i + 1) nodes)) p in
+      sym (ap (λ b. old || b) (declares_step p ∙ ap (λ b. ((x.within == p) && b) || rest) none ∙ ap (λ b. b || rest) (and_false (x.within == p)))) ∙ before
+
+  mark_by : (b old rest : Bool) → ((if b then true else old) || rest) ≡ (old || ((b && true) || rest))
+  mark_by true true rest = refl
+  mark_by true false rest = refl
+  mark_by false old rest = refl
+
+  pub mark_put : (old new : Bool) (p : ℕ) (due : Bool) → is_variable (at_view x).node ≡ true → new ≡ (if x.within == p then true else old)
+      → (old || declares (views (drop i nodes)) p) ≡ due → (new || declares (views (drop (i + 1) nodes)) p) ≡ due
+  mark_put old new p due is grown before =
+      let rest = declares (views (drop (i + 1) nodes)) p in
+      ap (λ b. b || rest) grown
+      ∙ mark_by (x.within == p) old rest
+      ∙ ap (λ b. old || (((x.within == p) && b) || rest)) (sym is)
+      ∙ sym (ap (λ b. old || b) (declares_step p))
+      ∙ before
+
   -- ---- a node is within the rows
 
   pub node_within : (count : ℕ) → Each (λ y. y.within < count) (views nodes) → x.within < count
@@ -197,30 +224,48 @@ counted nodes i x m n lt is le within each =
 
 -- ---- rows
 
-pub row_last : {A : Type 0} (rows : List (List A)) (r : List A) (p : ℕ) → length rows ≡ p → row (rows ++ r ∷ []) p ≡ r
-row_last [] r zero e = refl
-row_last [] r (suc p) e = absurd (omega arith)
-row_last (y ∷ rows) r zero e = absurd (omega arith)
-row_last (y ∷ rows) r (suc p) e = row_last rows r p (omega arith)
-
-pub row_before : {A : Type 0} (rows : List (List A)) (r : List A) (p : ℕ) → p < length rows → row (rows ++ r ∷ []) p ≡ row rows p
-row_before [] r p lt = absurd (omega arith)
-row_before (y ∷ rows) r zero lt = refl
-row_before (y ∷ rows) r (suc p) lt = row_before rows r p (omega arith)
-
 pub row_empty : {A : Type 0} (rows : List (List A)) (p : ℕ) → ((q : ℕ) → row rows q ≡ []) → row (rows ++ [] ∷ []) p ≡ []
 row_empty [] zero e = refl
 row_empty [] (suc p) e = refl
 row_empty (y ∷ rows) zero e = e 0
 row_empty (y ∷ rows) (suc p) e = row_empty rows p (λ q. e (suc q))
 
-pub closures_more : (steps : ℕ → List ℕ) (rows new : List (List ℕ)) (found : List ℕ) (k : ℕ) → length rows ≡ k → new ≡ rows ++ found ∷ [] → IsClosure (k ∷ []) steps found
-    → ((p : ℕ) → p < k → IsClosure (p ∷ []) steps (row rows p)) → (p : ℕ) → p < k + 1 → IsClosure (p ∷ []) steps (row new p)
-closures_more steps rows new found k len grown here held p lt =
+-- what holds of each item, each beside its place
+item_last : {A : Type 0} (d : A) (xs : List A) (x : A) (p : ℕ) → length xs ≡ p → unwrap_or (slice_get (xs ++ x ∷ []) p) d ≡ x
+item_last d [] x zero e = refl
+item_last d [] x (suc p) e = absurd (omega arith)
+item_last d (y ∷ xs) x zero e = absurd (omega arith)
+item_last d (y ∷ xs) x (suc p) e = item_last d xs x p (omega arith)
+
+item_before : {A : Type 0} (d : A) (xs : List A) (x : A) (p : ℕ) → p < length xs → unwrap_or (slice_get (xs ++ x ∷ []) p) d ≡ unwrap_or (slice_get xs p) d
+item_before d [] x p lt = absurd (omega arith)
+item_before d (y ∷ xs) x zero lt = refl
+item_before d (y ∷ xs) x (suc p) lt = item_before d xs x p (omega arith)
+
+items_more : {A : Type 0} (d : A) (P : ℕ → A → Type 0) (xs new : List A) (x : A) (k : ℕ) → length xs ≡ k → new ≡ xs ++ x ∷ [] → P k x
+    → ((p : ℕ) → p < k → P p (unwrap_or (slice_get xs p) d)) → (p : ℕ) → p < k + 1 → P p (unwrap_or (slice_get new p) d)
+items_more d P xs new x k len grown here held p lt =
     elim (before_or_at p k lt) [
-      | inl a ↦ subst (λ l. IsClosure (p ∷ []) steps l) (sym (ap (λ r. row r p) grown ∙ row_before rows found p (omega arith))) (held p a)
-      | inr e ↦ subst (λ q. IsClosure (q ∷ []) steps (row new q)) (sym e) (subst (λ l. IsClosure (k ∷ []) steps l) (sym (ap (λ r. row r k) grown ∙ row_last rows found k len)) here)
+      | inl a ↦ subst (P p) (sym (ap (λ l. unwrap_or (slice_get l p) d) grown ∙ item_before d xs x p (omega arith))) (held p a)
+      | inr e ↦ subst (λ q. P q (unwrap_or (slice_get new q) d)) (sym e) (subst (P k) (sym (ap (λ l. unwrap_or (slice_get l k) d) grown ∙ item_last d xs x k len)) here)
     ]
+
+-- one closure more, where it is wanted
+pub closures_more : (steps : ℕ → List ℕ) (wanted : List Bool) (rows new : List (List ℕ)) (found : List ℕ) (k : ℕ) → length rows ≡ k → new ≡ rows ++ found ∷ []
+    → (is_marked wanted k ≡ true → IsClosure (k ∷ []) steps found)
+    → ((p : ℕ) → p < k → is_marked wanted p ≡ true → IsClosure (p ∷ []) steps (row rows p)) → (p : ℕ) → p < k + 1 → is_marked wanted p ≡ true → IsClosure (p ∷ []) steps (row new p)
+closures_more steps wanted rows new found k len grown here held =
+    items_more [] (λ p r. is_marked wanted p ≡ true → IsClosure (p ∷ []) steps r) rows new found k len grown here held
+
+pub mark_at : (marks : List Bool) (k : ℕ) → get_or marks k false ≡ is_marked marks k
+mark_at [] k = refl
+mark_at (y ∷ ys) zero = refl
+mark_at (y ∷ ys) (suc k) = mark_at ys k
+
+-- one mark more
+pub marks_more : (due : ℕ → Bool) (marks new : List Bool) (mark : Bool) (k : ℕ) → length marks ≡ k → new ≡ marks ++ mark ∷ [] → mark ≡ due k
+    → ((p : ℕ) → p < k → is_marked marks p ≡ due p) → (p : ℕ) → p < k + 1 → is_marked new p ≡ due p
+marks_more due marks new mark k len grown here held = items_more false (λ p b. b ≡ due p) marks new mark k len grown here held
 
 -- ---- what is reached by steps that are the same
 
@@ -233,6 +278,9 @@ closure_along first f g found same c = record {
   reached = λ n at. reached_along first f g same n (c.reached n at);
   complete = λ n r. c.complete n (reached_along first g f (λ m. sym (same m)) n r);
 }
+
+pub no_cycle_along : (f g : ℕ → List ℕ) → ((m : ℕ) → f m ≡ g m) → HasNoCycle f → HasNoCycle g
+no_cycle_along f g same h = λ m n at r. h m n (subst (λ l. IsIn l n) (sym (same m)) at) (reached_along (n ∷ []) g f (λ k. sym (same k)) m r)
 
 -- ---- by names
 
@@ -303,12 +351,8 @@ pub rows_more : (definitions : List Definition) (rows new : List (List (List ℕ
     → ((p : ℕ) (d : Definition) → p < i → slice_get definitions p ≡ Some d → TellsVariables d (row rows p))
     → (p : ℕ) (d : Definition) → p < i + 1 → slice_get definitions p ≡ Some d → TellsVariables d (row new p)
 rows_more definitions rows new places i x stands len grown here held p d lt at =
-    elim (before_or_at p i lt) [
-      | inl a ↦ subst (λ r. TellsVariables d r) (sym (ap (λ r. row r p) grown ∙ row_before rows places p (omega arith))) (held p d a at)
-      | inr e ↦ let same : x ≡ d = some_same x d (sym stands ∙ sym (ap (slice_get definitions) e) ∙ at) in
-          subst (λ q. TellsVariables d (row new q)) (sym e)
-          (subst (λ r. TellsVariables d r) (sym (ap (λ r. row r i) grown ∙ row_last rows places i len)) (subst (λ y. TellsVariables y places) same here))
-    ]
+    items_more [] (λ q r. (e : Definition) → slice_get definitions q ≡ Some e → TellsVariables e r) rows new places i len grown
+    (λ e is. subst (λ y. TellsVariables y places) (some_same x e (sym stands ∙ is)) here) (λ q before e is. held q e before is) p lt d at
 
 -- the definition at the place of an operation
 pub record Standing (definitions : List Definition) (place : ℕ) (o : OperationDefinition) : Type 0 where

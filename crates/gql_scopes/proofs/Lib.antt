@@ -3,6 +3,8 @@ pub mod Found
 pub mod Gathered
 pub mod Membership
 pub mod Operations
+pub mod Ranks
 pub mod Relations
 pub mod RequiredFields
 pub mod SortsTold
+pub mod Targets

@@ -1,6 +1,5 @@
 -- Tests of lists, and what stands in them.
-use Rattle.std.proofs.Common.{◌≡◌, ◌⊎◌, inl, inr, ℕ, zero, suc, Bool, true, false, ◌||◌, ◌==◌, List, [], ◌∷◌, Option, Some, None, refl, sym, ap, subst, ◌∙◌, true≢false}
-use Rattle.std.specs.Prelude.{slice_get}
+use Rattle.std.proofs.Common.{◌≡◌, ◌⊎◌, inl, inr, ℕ, Bool, true, false, ◌||◌, ◌==◌, List, [], ◌∷◌, Option, Some, None, refl, sym, ap, subst, ◌∙◌, true≢false}
 use Rattle.std.specs.List.{list_any}
 use Rattle.std.proofs.lemmas.Bool.Decides.{Decides-eqb}
 use Rattle.pg_base.specs.Lists.{Each}
@@ -39,12 +38,20 @@ in_has [] n h = absurd h
 in_has (y ∷ ys) n (inl e) = left_so (y == n) (has ys n) ((Decides-eqb y n).1 e)
 in_has (y ∷ ys) n (inr h) = right_so (y == n) (has ys n) (in_has ys n h)
 
+pub here_is : (n : ℕ) → (n == n) ≡ true
+here_is n = (Decides-eqb n n).1 refl
+
 -- ---- any item
 
 pub none_passes : {A : Type 0} (test : A → Bool) (xs : List A) (x : A) → list_any test xs ≡ false → IsIn xs x → test x ≡ false
 none_passes test [] x h at = absurd at
 none_passes test (y ∷ ys) x h (inl e) = sym (ap test e) ∙ neither_first (test y) (list_any test ys) h
 none_passes test (y ∷ ys) x h (inr at) = none_passes test ys x (neither_second (test y) (list_any test ys) h) at
+
+pub any_in : {A : Type 0} (test : A → Bool) (xs : List A) (x : A) → IsIn xs x → test x ≡ true → list_any test xs ≡ true
+any_in test [] x at h = absurd at
+any_in test (y ∷ ys) x (inl e) h = left_so (test y) (list_any test ys) (ap test e ∙ h)
+any_in test (y ∷ ys) x (inr at) h = right_so (test y) (list_any test ys) (any_in test ys x at h)
 
 both_false : (a b : Bool) → a ≡ false → b ≡ false → (a || b) ≡ false
 both_false a b e f = ap (λ c. c || b) e ∙ f
@@ -69,7 +76,7 @@ passes test o x is h = ap (if_some test) is ∙ h
 
 -- ---- each item
 
-pub each_at : {A : Type 0} (P : A → Type 0) (xs : List A) (i : ℕ) (x : A) → Each P xs → slice_get xs i ≡ Some x → P x
-each_at P [] i x h at = absurd (cc)
-each_at P (y ∷ ys) zero x h at = let same : y ≡ x = cc in subst P same h.0
-each_at P (y ∷ ys) (suc i) x h at = each_at P ys i x h.1 at
+pub each_in : {A : Type 0} (P : A → Type 0) (xs : List A) (x : A) → Each P xs → IsIn xs x → P x
+each_in P [] x h at = absurd at
+each_in P (y ∷ ys) x h (inl e) = subst P e h.0
+each_in P (y ∷ ys) x h (inr at) = each_in P ys x h.1 at

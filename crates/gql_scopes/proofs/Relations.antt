@@ -1,6 +1,6 @@
 -- The rules that look beyond a node, beside the tests by what is gathered.
-use Rattle.std.proofs.Common.{◌≡◌, ℕ, zero, suc, ◌+◌, ◌<◌, Bool, true, false, ◌&&◌, ◌||◌, not, List, [], ◌∷◌, Option, Some, None, length, refl, sym, ap, subst, ◌∙◌, arith, true≢false}
-use Rattle.std.specs.Prelude.{slice_get, option_and_then, if◌then◌else◌, is_none, IsSomeAnd, IsTrue}
+use Rattle.std.proofs.Common.{◌≡◌, ℕ, zero, suc, ◌+◌, ◌<◌, Bool, true, false, ◌&&◌, ◌||◌, ◌==◌, not, List, [], ◌∷◌, Option, Some, None, length, refl, sym, ap, subst, ◌∙◌, arith, true≢false}
+use Rattle.std.specs.Prelude.{slice_get, option_and_then, if◌then◌else◌, is_none, is_some, IsSomeAnd, IsTrue}
 use Rattle.std.specs.Cmp.{first_so, second_so}
 use Rattle.std.specs.List.{list_any}
 use Rattle.pg_base.specs.Schema.{SchemaParts}
@@ -8,13 +8,16 @@ use Rattle.gql_reader.specs.declared.tree.Definition.{Definition}
 use Rattle.gql_reader.specs.declared.tree.Document.{Document}
 use Rattle.gql_reader.specs.declared.tree.FragmentDefinition.{FragmentDefinition}
 use Rattle.gql_reader.specs.declared.tree.OperationDefinition.{OperationDefinition}
+use Rattle.gql_reader.specs.declared.tree.VariableDefinition.{VariableDefinition}
 use Rattle.gql_types.specs.Types.{Ty, object_named}
 use Rattle.gql_nodes.specs.Names.{is_among, place_in}
 use Rattle.gql_nodes.specs.Nodes.{At, Node}
-use Rattle.gql_nodes.specs.Uses.{as_fragment, is_named, place_from, fragment_place, spread_names, Reaches, ReachingOperation, variable_in, variable_name, as_operation, operation_at, fragment_at, fragment_named}
+use Rattle.gql_nodes.specs.Reached.{IsIn}
+use Rattle.gql_nodes.specs.Uses.{as_fragment, is_named, place_from, fragment_place, spread_name, spread_names, Reaches, ReachingOperation, variable_in, variable_name, as_operation, operation_at, fragment_at, fragment_named}
 use Rattle.gql_scopes.specs.Conditions.{if_some}
-use Rattle.gql_scopes.specs.Tables.{TablesParts, AreTables, row, has, found_variable, any_operation}
-use Rattle.gql_scopes.specs.Tests.{is_unused_fragment, is_on_cycle, spreads_undefined, is_impossible, target_type, is_undefined, uses_undefined, is_unused_variable, is_misused, misuses}
+use Rattle.gql_scopes.specs.Tables.{TablesParts, AreTables, row, has, found_variable, any_operation, is_variable, declares, is_asked, is_wanted}
+use Rattle.gql_scopes.specs.SortFacts.{OfVariable}
+use Rattle.gql_scopes.specs.Tests.{is_unused_fragment, comes_back, is_on_cycle, spreads_undefined, is_impossible, target_type, is_undefined, uses_undefined, is_unused_variable, is_misused, misuses}
 use Rattle.gql_scopes.specs.FragmentsMustBeUsed as fragments_must_be_used
 use Rattle.gql_scopes.specs.FragmentSpreadTargetDefined as target_defined
 use Rattle.gql_scopes.specs.FragmentSpreadsMustNotFormCycles as cycles
@@ -23,9 +26,10 @@ use Rattle.gql_scopes.specs.Sorts.{on_inline}
 use Rattle.gql_scopes.specs.AllVariableUsesDefined as defined
 use Rattle.gql_scopes.specs.AllVariablesUsed as used
 use Rattle.gql_scopes.specs.AllVariableUsagesAreAllowed as allowed
-use Rattle.gql_scopes.proofs.Membership.{has_in, in_has, none_passes, all_fail, passed}
+use Rattle.gql_scopes.proofs.Membership.{has_in, in_has, left_so, right_so, any_in, here_is, each_in, none_passes, all_fail, passed}
 use Rattle.gql_scopes.proofs.Operations.{some_passes, any_passes}
-use Rattle.gql_scopes.proofs.SortsTold.{some_told, some_tells, same_definitions, same_spreads, variable_told, variable_tells, spread_told, spread_tells, value_told, value_tells}
+use Rattle.gql_scopes.proofs.SortsTold.{some_told, some_tells, same_definitions, same_spreads, variable_told, variable_tells, spread_told, spread_tells, spread_of, value_told, value_tells}
+use Rattle.gql_scopes.proofs.Targets.{in_targets}
 
 -- ---- places of fragments
 
@@ -50,11 +54,25 @@ not_false true h = absurd (true≢false (sym h))
 not_false false h = refl
 
 module _ (document : Document) (nodes : List At) (tables : TablesParts) (t : AreTables document nodes tables) where
-  reaches_told : (p w : ℕ) → p < length tables.reached → has (row tables.reached p) w ≡ true → Reaches nodes document p w
-  reaches_told p w lt h = (t.reached p lt).reached w (has_in (row tables.reached p) w h)
+  -- ---- what is asked
 
-  reaches_tells : (p w : ℕ) → p < length tables.reached → Reaches nodes document p w → has (row tables.reached p) w ≡ true
-  reaches_tells p w lt h = in_has (row tables.reached p) w ((t.reached p lt).complete w h)
+  each_asked : (p : ℕ) → tables.ordered ≡ false → is_wanted document nodes tables.ordered p ≡ true
+  each_asked p e = ap (λ b. is_wanted document nodes b p) e
+
+  operation_asked : (p : ℕ) (o : OperationDefinition) → operation_at document p ≡ Some o → is_wanted document nodes tables.ordered p ≡ true
+  operation_asked p o at =
+      left_so (is_asked document tables.ordered p) (declares nodes p) (right_so (not tables.ordered) (is_some (operation_at document p)) (ap is_some at))
+
+  variable_asked : (x : At) → IsIn nodes x → is_variable x.node ≡ true → is_wanted document nodes tables.ordered x.within ≡ true
+  variable_asked x at h =
+      right_so (is_asked document tables.ordered x.within) (declares nodes x.within)
+      (any_in (λ y. (y.within == x.within) && is_variable y.node) nodes x at (both_so (x.within == x.within) (is_variable x.node) (here_is x.within) h))
+
+  reaches_told : (p w : ℕ) → p < length tables.reached → is_wanted document nodes tables.ordered p ≡ true → has (row tables.reached p) w ≡ true → Reaches nodes document p w
+  reaches_told p w lt asked h = (t.reached p lt asked).reached w (has_in (row tables.reached p) w h)
+
+  reaches_tells : (p w : ℕ) → p < length tables.reached → is_wanted document nodes tables.ordered p ≡ true → Reaches nodes document p w → has (row tables.reached p) w ≡ true
+  reaches_tells p w lt asked h = in_has (row tables.reached p) w ((t.reached p lt asked).complete w h)
 
   definition_within : (p : ℕ) → p < length document.definitions → p < length tables.reached
   definition_within p lt = let le = t.rows in omega arith
@@ -75,31 +93,48 @@ module _ (document : Document) (nodes : List At) (tables : TablesParts) (t : Are
 
   -- ---- 5.5.2.2
 
-  LeadsBack : ℕ → List ℕ → Type 0
-  LeadsBack w name = IsSomeAnd (fragment_place document name) (λ target. Reaches nodes document target w)
-
-  leads_told : (w : ℕ) (name : List ℕ) → if_some (λ target. has (row tables.reached target) w) (place_in tables.fragments name) ≡ true
+  leads_told : (w : ℕ) (name : List ℕ) → if_some (comes_back tables w) (place_in tables.fragments name) ≡ true
       → IsSomeAnd (fragment_place document name) (λ target. Reaches nodes document target w)
   leads_told w name h =
-      let p = passed (λ target. has (row tables.reached target) w) (fragment_place document name) (sym (ap (if_some (λ target. has (row tables.reached target) w)) (t.fragments name)) ∙ h) in
-      subst (λ o. IsSomeAnd o (λ target. Reaches nodes document target w)) (sym p.is) (reaches_told p.item w (target_within p.item name p.is) p.passes)
+      let p = passed (comes_back tables w) (fragment_place document name) (sym (ap (if_some (comes_back tables w)) (t.fragments name)) ∙ h) in
+      let unordered = not_false tables.ordered (first_so (not tables.ordered) (has (row tables.reached p.item) w) p.passes) in
+      let reached = second_so (not tables.ordered) (has (row tables.reached p.item) w) p.passes in
+      subst (λ o. IsSomeAnd o (λ target. Reaches nodes document target w)) (sym p.is)
+      (reaches_told p.item w (target_within p.item name p.is) (each_asked p.item unordered) reached)
 
-  leads_tells_by : (w : ℕ) (name : List ℕ) (o : Option ℕ) → fragment_place document name ≡ o → IsSomeAnd o (λ target. Reaches nodes document target w)
-      → if_some (λ target. has (row tables.reached target) w) o ≡ true
-  leads_tells_by w name None e h = absurd h
-  leads_tells_by w name (Some p) e h = reaches_tells p w (target_within p name e) h
+  leads_tells_by : (w : ℕ) (name : List ℕ) (o : Option ℕ) → tables.ordered ≡ false → fragment_place document name ≡ o → IsSomeAnd o (λ target. Reaches nodes document target w)
+      → if_some (comes_back tables w) o ≡ true
+  leads_tells_by w name None unordered e h = absurd h
+  leads_tells_by w name (Some p) unordered e h =
+      both_so (not tables.ordered) (has (row tables.reached p) w) (ap not unordered) (reaches_tells p w (target_within p name e) (each_asked p unordered) h)
 
-  leads_tells : (w : ℕ) (name : List ℕ) → IsSomeAnd (fragment_place document name) (λ target. Reaches nodes document target w)
-      → if_some (λ target. has (row tables.reached target) w) (place_in tables.fragments name) ≡ true
-  leads_tells w name h = ap (if_some (λ target. has (row tables.reached target) w)) (t.fragments name) ∙ leads_tells_by w name (fragment_place document name) refl h
+  leads_tells : (w : ℕ) (name : List ℕ) → tables.ordered ≡ false → IsSomeAnd (fragment_place document name) (λ target. Reaches nodes document target w)
+      → if_some (comes_back tables w) (place_in tables.fragments name) ≡ true
+  leads_tells w name unordered h =
+      ap (if_some (comes_back tables w)) (t.fragments name) ∙ leads_tells_by w name (fragment_place document name) unordered refl h
 
-  pub cycle_told : (x : At) → is_on_cycle tables x.within x.node ≡ true → cycles.Breaks document nodes x
-  cycle_told x h = spread_told (λ parent s. if_some (λ target. has (row tables.reached target) x.within) (place_in tables.fragments s.name))
+  -- where definitions are ordered, no spread comes back
+  none_leads : (x : At) (name : List ℕ) (o : Option ℕ) → tables.ordered ≡ true → IsIn nodes x → spread_name x.node ≡ Some name → fragment_place document name ≡ o
+      → IsSomeAnd o (λ target. Reaches nodes document target x.within) → ⊥
+  none_leads x name None e at is place h = absurd h
+  none_leads x name (Some p) e at is place h = t.ordered e x.within p (in_targets document nodes x p at (ap (option_and_then (fragment_place document)) is ∙ place)) h
+
+  no_cycle : (x : At) → tables.ordered ≡ true → IsIn nodes x → cycles.Breaks document nodes x → ⊥
+  no_cycle x e at h =
+      let s = spread_of (λ s. IsSomeAnd (fragment_place document s.name) (λ target. Reaches nodes document target x.within)) x.node h in
+      none_leads x s.spread.name (fragment_place document s.spread.name) e at s.name refl s.fact
+
+  pub cycle_told : (x : At) → IsIn nodes x → is_on_cycle tables x.within x.node ≡ true → cycles.Breaks document nodes x
+  cycle_told x at h = spread_told (λ parent s. if_some (comes_back tables x.within) (place_in tables.fragments s.name))
       (λ s. IsSomeAnd (fragment_place document s.name) (λ target. Reaches nodes document target x.within)) (λ parent s k. leads_told x.within s.name k) x.node h
 
-  pub cycle_tells : (x : At) → cycles.Breaks document nodes x → is_on_cycle tables x.within x.node ≡ true
-  cycle_tells x h = spread_tells (λ parent s. if_some (λ target. has (row tables.reached target) x.within) (place_in tables.fragments s.name))
-      (λ s. IsSomeAnd (fragment_place document s.name) (λ target. Reaches nodes document target x.within)) (λ parent s k. leads_tells x.within s.name k) x.node h
+  cycle_tells_by : (x : At) (b : Bool) → tables.ordered ≡ b → IsIn nodes x → cycles.Breaks document nodes x → is_on_cycle tables x.within x.node ≡ true
+  cycle_tells_by x true e at h = absurd (no_cycle x e at h)
+  cycle_tells_by x false e at h = spread_tells (λ parent s. if_some (comes_back tables x.within) (place_in tables.fragments s.name))
+      (λ s. IsSomeAnd (fragment_place document s.name) (λ target. Reaches nodes document target x.within)) (λ parent s k. leads_tells x.within s.name e k) x.node h
+
+  pub cycle_tells : (x : At) → IsIn nodes x → cycles.Breaks document nodes x → is_on_cycle tables x.within x.node ≡ true
+  cycle_tells x at h = cycle_tells_by x tables.ordered refl at h
 
   -- ---- 5.5.2.1 and 5.5.2.3
 
@@ -126,7 +161,7 @@ module _ (document : Document) (nodes : List At) (tables : TablesParts) (t : Are
         place = p.place;
         operation = p.operation;
         stands = p.stands;
-        reaches = reaches_told p.place w (definition_within p.place p.within) (first_so (has (row tables.reached p.place) w) (test p.place p.operation) at);
+        reaches = reaches_told p.place w (definition_within p.place p.within) (operation_asked p.place p.operation p.stands) (first_so (has (row tables.reached p.place) w) (test p.place p.operation) at);
         fact = go p.place p.operation p.stands (second_so (has (row tables.reached p.place) w) (test p.place p.operation) at);
       }
 
@@ -141,7 +176,7 @@ module _ (document : Document) (nodes : List At) (tables : TablesParts) (t : Are
   reaching_some w test F go r =
       let lt = definition_within r.place (stands_within r.place document.definitions r.operation r.stands) in
       let same : r.place ≡ 0 + r.place = omega arith in
-      let both = both_so (has (row tables.reached r.place) w) (test r.place r.operation) (reaches_tells r.place w lt r.reaches) (go r.place r.operation r.stands r.fact) in
+      let both = both_so (has (row tables.reached r.place) w) (test r.place r.operation) (reaches_tells r.place w lt (operation_asked r.place r.operation r.stands) r.reaches) (go r.place r.operation r.stands r.fact) in
       any_passes 0 (λ place o. has (row tables.reached place) w && test place o) document.definitions r.place r.operation r.stands
       (subst (λ k. (has (row tables.reached k) w && test k r.operation) ≡ true) same both)
 
@@ -197,20 +232,29 @@ module _ (document : Document) (nodes : List At) (tables : TablesParts) (t : Are
 
   -- ---- 5.8.4
 
-  pub variable_unused_told : (w : ℕ) (name : List ℕ) → w < length tables.reached → not (list_any (λ place. is_among name (row tables.used place)) (row tables.reached w)) ≡ true
-      → used.IsUnused document nodes w name
-  variable_unused_told w name lt h = λ j r.
-      sym (t.used j name) ∙ none_passes (λ place. is_among name (row tables.used place)) (row tables.reached w) j (not_false _ h) ((t.reached w lt).complete j r)
+  variable_unused_told : (w : ℕ) (name : List ℕ) → w < length tables.reached → is_wanted document nodes tables.ordered w ≡ true
+      → not (list_any (λ place. is_among name (row tables.used place)) (row tables.reached w)) ≡ true → used.IsUnused document nodes w name
+  variable_unused_told w name lt asked h = λ j r.
+      sym (t.used j name) ∙ none_passes (λ place. is_among name (row tables.used place)) (row tables.reached w) j (not_false _ h) ((t.reached w lt asked).complete j r)
 
-  pub variable_unused_tells : (w : ℕ) (name : List ℕ) → w < length tables.reached → used.IsUnused document nodes w name
+  variable_unused_tells : (w : ℕ) (name : List ℕ) → w < length tables.reached → is_wanted document nodes tables.ordered w ≡ true → used.IsUnused document nodes w name
       → not (list_any (λ place. is_among name (row tables.used place)) (row tables.reached w)) ≡ true
-  variable_unused_tells w name lt h =
-      ap not (all_fail (λ place. is_among name (row tables.used place)) (row tables.reached w) (λ j at. t.used j name ∙ h j ((t.reached w lt).reached j at)))
+  variable_unused_tells w name lt asked h =
+      ap not (all_fail (λ place. is_among name (row tables.used place)) (row tables.reached w) (λ j at. t.used j name ∙ h j ((t.reached w lt asked).reached j at)))
 
-  pub unused_told : (x : At) → x.within < length tables.reached → is_unused_variable tables x.within x.node ≡ true → used.Breaks document nodes x
-  unused_told x lt h = variable_told (λ repeated v. not (list_any (λ place. is_among v.name (row tables.used place)) (row tables.reached x.within)))
-      (λ v. used.IsUnused document nodes x.within v.name) (λ repeated v k. variable_unused_told x.within v.name lt k) x.node h
+  of_variable : (F : VariableDefinition → Type 0) (n : Node) → OfVariable F n → is_variable n ≡ true
+  of_variable F n h = variable_tells (λ repeated v. true) F (λ repeated v f. refl) n h
 
-  pub unused_tells : (x : At) → x.within < length tables.reached → used.Breaks document nodes x → is_unused_variable tables x.within x.node ≡ true
-  unused_tells x lt h = variable_tells (λ repeated v. not (list_any (λ place. is_among v.name (row tables.used place)) (row tables.reached x.within)))
-      (λ v. used.IsUnused document nodes x.within v.name) (λ repeated v k. variable_unused_tells x.within v.name lt k) x.node h
+  pub unused_told : (x : At) → IsIn nodes x → is_unused_variable tables x.within x.node ≡ true → used.Breaks document nodes x
+  unused_told x at h =
+      let test : Bool → VariableDefinition → Bool = λ repeated v. not (list_any (λ place. is_among v.name (row tables.used place)) (row tables.reached x.within)) in
+      let asked = variable_asked x at (of_variable (λ v. Unit {0}) x.node (variable_told test (λ v. Unit {0}) (λ repeated v k. tt) x.node h)) in
+      variable_told test (λ v. used.IsUnused document nodes x.within v.name)
+      (λ repeated v k. variable_unused_told x.within v.name (each_in (λ y. y.within < length tables.reached) nodes x t.placed at) asked k) x.node h
+
+  pub unused_tells : (x : At) → IsIn nodes x → used.Breaks document nodes x → is_unused_variable tables x.within x.node ≡ true
+  unused_tells x at h =
+      let asked = variable_asked x at (of_variable (λ v. used.IsUnused document nodes x.within v.name) x.node h) in
+      variable_tells (λ repeated v. not (list_any (λ place. is_among v.name (row tables.used place)) (row tables.reached x.within)))
+      (λ v. used.IsUnused document nodes x.within v.name)
+      (λ repeated v k. variable_unused_tells x.within v.name (each_in (λ y. y.within < length tables.reached) nodes x t.placed at) asked k) x.node h

@@ -8,6 +8,7 @@ use Rattle.gql_reader.specs.declared.tree.FragmentSpread.{FragmentSpread}
 use Rattle.gql_types.specs.Types.{Ty}
 use Rattle.gql_nodes.specs.Nodes.{Node, at_definition, at_variable, at_field, at_spread, at_inline, at_directive, at_argument, at_value, at_object_field}
 use Rattle.gql_nodes.specs.Sorts.{on_definition}
+use Rattle.gql_nodes.specs.Uses.{spread_name}
 use Rattle.gql_scopes.specs.Conditions.{if_some}
 use Rattle.gql_scopes.specs.Sorts.{on_variable, on_spread, on_value}
 use Rattle.gql_scopes.specs.SortFacts.{OfVariable, OfSpread, OfValue}
@@ -74,6 +75,22 @@ spread_tells test F go (at_directive _ _ _ _) h = absurd h
 spread_tells test F go (at_argument _ _ _) h = absurd h
 spread_tells test F go (at_value _ _ _) h = absurd h
 spread_tells test F go (at_object_field _ _ _ _) h = absurd h
+
+pub record SpreadOf (F : FragmentSpread → Type 0) (x : Node) : Type 0 where
+  pub spread : FragmentSpread
+  pub name : spread_name x ≡ Some spread.name
+  pub fact : F spread
+
+pub spread_of : (F : FragmentSpread → Type 0) (x : Node) → OfSpread F x → SpreadOf F x
+spread_of F (at_definition _ _) h = absurd h
+spread_of F (at_variable _ _) h = absurd h
+spread_of F (at_field _ _ _ _) h = absurd h
+spread_of F (at_spread owner parent s) h = record { spread = s; name = refl; fact = h }
+spread_of F (at_inline _ _ _) h = absurd h
+spread_of F (at_directive _ _ _ _) h = absurd h
+spread_of F (at_argument _ _ _) h = absurd h
+spread_of F (at_value _ _ _) h = absurd h
+spread_of F (at_object_field _ _ _ _) h = absurd h
 
 pub value_told : (test : Option Ty → ValueKind → Bool) (F : Option Ty → ValueKind → Type 0) → ((ty : Option Ty) (kind : ValueKind) → test ty kind ≡ true → F ty kind) → (x : Node) → on_value test x ≡ true → OfValue F x
 value_told test F go (at_definition _ _) h = true≢false (sym h)

@@ -15,6 +15,7 @@ pub mod GivenFields
 pub mod InputObjectFieldNames
 pub mod InputObjectFieldUniqueness
 pub mod InputObjectRequiredFields
+pub mod Ranks
 pub mod Scopes
 pub mod SortFacts
 pub mod Sorts

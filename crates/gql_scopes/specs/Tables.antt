@@ -1,6 +1,7 @@
 -- What is gathered from the nodes once, for rules that look beyond a node: rows for the definitions by their places.
-use Rattle.std.specs.Prelude.{◌≡◌, ℕ, ◌+◌, ◌<◌, ◌≤◌, ◌==◌, Bool, false, ◌||◌, List, [], ◌∷◌, length}
-use Rattle.std.specs.Prelude.{Option, Some, None, slice_get, unwrap_or, option_and_then, filter_map, if◌then◌else◌}
+use Rattle.std.specs.Prelude.{◌≡◌, ℕ, ◌+◌, ◌<◌, ◌≤◌, ◌==◌, Bool, true, false, ◌&&◌, ◌||◌, not, IsTrue, List, [], ◌∷◌}
+use Rattle.std.specs.Prelude.{length, Option, Some, None, is_some, slice_get, unwrap_or, option_and_then, filter_map}
+use Rattle.std.specs.Prelude.{if◌then◌else◌}
 use Rattle.std.specs.List.{list_any}
 use Rattle.std.specs.Str.{bytes_eq}
 use Rattle.pg_base.specs.Lists.{Each}
@@ -9,11 +10,13 @@ use Rattle.gql_reader.specs.declared.tree.Document.{Document}
 use Rattle.gql_reader.specs.declared.tree.OperationDefinition.{OperationDefinition}
 use Rattle.gql_reader.specs.declared.tree.VariableDefinition.{VariableDefinition}
 use Rattle.gql_nodes.specs.Names.{is_among, place_in}
-use Rattle.gql_nodes.specs.Nodes.{At}
+use Rattle.gql_nodes.specs.Nodes.{At, Node}
 use Rattle.gql_nodes.specs.Reached.{IsClosure}
 use Rattle.gql_nodes.specs.Uses.{as_fragment, as_operation, is_named, operation_at, fragment_place, spread_name, spread_names}
 use Rattle.gql_nodes.specs.Uses.{used_names, nodes_within, targets, variable_in}
 use Rattle.gql_scopes.specs.Conditions.{if_some}
+use Rattle.gql_scopes.specs.Ranks.{HasNoCycle}
+use Rattle.gql_scopes.specs.Sorts.{on_variable}
 
 -- the row at a place, and an empty one past the end
 abbrev pub row : {A : Type 0} → List (List A) → ℕ → List A
@@ -27,6 +30,7 @@ pub record TablesParts : Type 0 where
   pub variables : List (List (List ℕ × ℕ))
   pub spreads : List (List ℕ)
   pub used : List (List (List ℕ))
+  pub ordered : Bool
   pub reached : List (List ℕ)
 
 -- the variable of the operation at the place, by its name
@@ -34,9 +38,28 @@ abbrev pub found_variable : TablesParts → ℕ → OperationDefinition → List
 found_variable tables place o name =
     option_and_then (slice_get o.variables) (place_in (row tables.variables place) name)
 
+abbrev pub is_variable : Node → Bool
+is_variable x = on_variable (λ repeated v. true) x
+
+-- variables stand in the definition at the place
+abbrev pub declares : List At → ℕ → Bool
+declares nodes place = list_any (λ x. (x.within == place) && is_variable x.node) nodes
+
+-- what the definition reaches is asked of operations, and of all definitions where these aren't ordered
+abbrev pub is_asked : Document → Bool → ℕ → Bool
+is_asked document ordered place = not ordered || is_some (operation_at document place)
+
+-- the same, and of definitions in which variables stand
+abbrev pub is_wanted : Document → List At → Bool → ℕ → Bool
+is_wanted document nodes ordered place = is_asked document ordered place || declares nodes place
+
+-- the mark of a place, and none past the end
+abbrev pub is_marked : List Bool → ℕ → Bool
+is_marked marks place = unwrap_or (slice_get marks place) false
+
 -- Where fragments stand, and the variables of operations, by their names; the names that spreads name; what each
--- definition uses, and what it reaches. There is a row of the latter for each definition and for each place where nodes
--- stand.
+-- definition uses; whether it is known that spreads form no cycle; and what definitions reach, where that is wanted.
+-- There is a row of the latter for each definition and for each place where nodes stand.
 pub record AreTables (document : Document) (nodes : List At) (tables : TablesParts) : Type 0 where
   pub fragments : (name : List ℕ) → place_in tables.fragments name ≡ fragment_place document name
   pub variables : (place : ℕ) (o : OperationDefinition) → operation_at document place ≡ Some o → (name : List ℕ)
@@ -44,7 +67,8 @@ pub record AreTables (document : Document) (nodes : List At) (tables : TablesPar
   pub spreads : (name : List ℕ) → is_among name tables.spreads ≡ is_among name (spread_names nodes)
   pub used : (place : ℕ) (name : List ℕ)
       → is_among name (row tables.used place) ≡ is_among name (used_names nodes place)
-  pub reached : (place : ℕ) → place < length tables.reached
+  pub ordered : IsTrue tables.ordered → HasNoCycle (targets nodes document)
+  pub reached : (place : ℕ) → place < length tables.reached → IsTrue (is_wanted document nodes tables.ordered place)
       → IsClosure (place ∷ []) (targets nodes document) (row tables.reached place)
   pub rows : length document.definitions ≤ length tables.reached
   pub placed : Each (λ x. x.within < length tables.reached) nodes

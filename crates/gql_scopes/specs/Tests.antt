@@ -37,10 +37,14 @@ is_unused_fragment tables x =
 abbrev pub spreads_undefined : TablesParts → Node → Bool
 spreads_undefined tables x = on_spread (λ parent s. is_none (place_in tables.fragments s.name)) x
 
+-- the target reaches the definition, where these aren't ordered
+abbrev pub comes_back : TablesParts → ℕ → ℕ → Bool
+comes_back tables within target = not tables.ordered && has (row tables.reached target) within
+
 -- the target reaches the definition in which the spread stands
 abbrev pub is_on_cycle : TablesParts → ℕ → Node → Bool
 is_on_cycle tables within x = on_spread (λ parent s.
-    if_some (λ target. has (row tables.reached target) within) (place_in tables.fragments s.name)) x
+    if_some (comes_back tables within) (place_in tables.fragments s.name)) x
 
 -- the type of the spread's fragment
 abbrev pub target_type : SchemaParts → Document → TablesParts → List ℕ → Option ℕ

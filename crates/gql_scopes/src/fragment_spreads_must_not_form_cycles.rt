@@ -3,7 +3,6 @@
 ghost use Rattle.std.specs.Prelude.{◌≡◌};
 ghost use Rattle.gql_nodes.specs.Names.{place_in};
 ghost use Rattle.gql_scopes.specs.Conditions.{if_some};
-ghost use Rattle.gql_scopes.specs.Tables.{row, has};
 ghost use Rattle.gql_scopes.specs.Tests as tests;
 ghost use Rattle.gql_nodes.specs.Listed.{view};
 
@@ -12,12 +11,12 @@ use gql_nodes::Node;
 use pg_base::Text;
 
 fn comes_back(tables: &Tables, within: usize, name: &Text) -> bool
-    ensures { result ≡ if_some (λ target. has (row tables.now.reached target) within)
+    ensures { result ≡ if_some (tests.comes_back tables.now within)
         (place_in tables.now.fragments name.now) }
 {
     match tables.fragment(name) {
         None => false,
-        Some(target) => tables.reaches(target, within),
+        Some(target) => !tables.ordered() && tables.reaches(target, within),
     }
 }
 

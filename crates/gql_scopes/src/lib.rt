@@ -21,6 +21,7 @@ mod input_object_field_names;
 mod input_object_field_uniqueness;
 mod input_object_required_fields;
 mod names;
+mod order;
 mod places;
 mod rule;
 mod search;
@@ -30,6 +31,7 @@ mod uses;
 mod values_of_correct_type;
 mod variable_uniqueness;
 mod variables_are_input_types;
+mod wanted;
 
 pub use check::check_scopes;
 pub use rule::ScopeRule;

@@ -1,9 +1,10 @@
 //! Places of definitions that are reached.
 
-ghost use Rattle.std.specs.Prelude.{◌≡◌};
+ghost use Rattle.std.specs.Prelude.{◌≡◌, []};
 ghost use Rattle.gql_scopes.specs.Tables.{has};
 
 use indexmap::IndexSet;
+use std::alloc::Global;
 use std::marker::Model;
 
 /// Places, each once.
@@ -21,6 +22,14 @@ impl Model for PlaceSet {
 }
 
 impl PlaceSet {
+    pub(crate) fn new(alloc: Global) -> PlaceSet
+        ensures { result ≡ [] }
+    {
+        PlaceSet {
+            places: IndexSet::new(alloc),
+        }
+    }
+
     pub(crate) fn of(places: IndexSet<usize>) -> PlaceSet
         ensures { result ≡ places.keys }
     {

@@ -1,6 +1,6 @@
 //! What is gathered from the nodes once.
 
-ghost use Rattle.std.specs.Prelude.{◌≡◌, ◌≤◌, ◌<◌, ◌==◌, ◌++◌, [], ◌∷◌, ℕ, List, length, if◌then◌else◌, IfOk, IfErr, IfSome, OnOk, Some, slice_get, option_map};
+ghost use Rattle.std.specs.Prelude.{◌≡◌, ◌≤◌, ◌<◌, ◌==◌, ◌++◌, [], ◌∷◌, ℕ, List, length, if◌then◌else◌, IsTrue, IfOk, IfErr, IfSome, OnOk, Some, slice_get, option_map};
 ghost use Rattle.pg_base.specs.Lists.{Each};
 ghost use Rattle.gql_nodes.specs.Listed.{at_view, views};
 ghost use Rattle.gql_nodes.specs.declared.fault.RuleError.TheVariants.{Memory as RuleMemory};
@@ -12,8 +12,10 @@ ghost use Rattle.gql_scopes.specs.Tables as spec;
 ghost use Rattle.std.proofs.lemmas.Bool.Decides.{Decides-eqb};
 
 use crate::names::NameSet;
+use crate::order::is_ordered;
 use crate::places::PlaceSet;
 use crate::uses::{spread_name, used_name};
+use crate::wanted::gather_wanted;
 use gql_nodes::{At, Graph, Places, RuleError, reached};
 use gql_reader::{Definition, Document, OperationDefinition, VariableDefinition};
 use pg_base::{Memory, Sequence, Text};
@@ -21,14 +23,16 @@ use std::alloc::Global;
 use std::marker::Model;
 
 /// What is gathered from the definitions and nodes of a document: where fragments stand, by their names; the variables
-/// of each operation, by their names; the names that spreads name; and for each definition, by its place, the variables
-/// that it uses and the definitions that it reaches.
+/// of each operation, by their names; the names that spreads name; for each definition, by its place, the variables that
+/// it uses; whether an order of the definitions shows that spreads form no cycle; and what definitions reach, where that is
+/// wanted.
 #[derive(Drop)]
 pub(crate) struct Tables {
     fragments: Places,
     variables: Vec<Places>,
     spreads: NameSet,
     used: Vec<NameSet>,
+    ordered: bool,
     reached: Vec<PlaceSet>,
 }
 
@@ -42,6 +46,7 @@ impl Model for Tables {
       variables = t.variables.items;
       spreads = t.spreads;
       used = t.used.items;
+      ordered = t.ordered;
       reached = t.reached.items;
     } };
 }
@@ -103,6 +108,13 @@ impl Tables {
             None => &[],
             Some(places) => places.as_slice(),
         }
+    }
+
+    /// Whether an order of the definitions shows that spreads form no cycle.
+    pub(crate) fn ordered(&self) -> bool
+        ensures { result ≡ self.now.ordered }
+    {
+        self.ordered
     }
 
     /// Whether the definition at the place reaches the other one.
@@ -258,17 +270,39 @@ impl Graph for Spreads {
     ghost tells = { λ m n h. (Decides-eqb m n).0 h };
 }
 
-/// What each definition reaches.
-fn gather_reached(alloc: Global, spreads: &Spreads, count: usize) -> Result<Vec<PlaceSet>, Memory>
-    ensures len { IfOk result (λ rows. length rows.items ≡ count) }
-    ensures reached { IfOk result (λ rows. (place : ℕ) → place < count
+/// What the definition at the place reaches, where that is wanted.
+fn reached_if(
+    alloc: Global,
+    spreads: &Spreads,
+    place: usize,
+    wanted: bool,
+) -> Result<PlaceSet, Memory>
+    ensures { IfOk result (λ found. IsTrue wanted
+        → IsClosure (place ∷ []) (λ n. spec.row spreads.now.rows.items n) found) }
+{
+    if !wanted {
+        return Ok(PlaceSet::new(alloc));
+    }
+    let found = reached(alloc, spreads, &[place])?;
+    Ok(PlaceSet::of(found))
+}
+
+/// What definitions reach, where that is wanted.
+fn gather_reached(
+    alloc: Global,
+    spreads: &Spreads,
+    wanted: &[bool],
+) -> Result<Vec<PlaceSet>, Memory>
+    ensures len { IfOk result (λ rows. length rows.items ≡ length wanted.now) }
+    ensures reached { IfOk result (λ rows. (place : ℕ) → place < length wanted.now
+        → IsTrue (spec.is_marked wanted.now place)
         → IsClosure (place ∷ []) (λ n. spec.row spreads.now.rows.items n)
         (spec.row rows.items place)) }
 {
     let mut rows = Vec::new(alloc);
-    for place in 0..count {
-        let found = reached(alloc, spreads, &[place])?;
-        rows.push(PlaceSet::of(found))?;
+    for (place, is_wanted) in wanted.iter().enumerate() {
+        let found = reached_if(alloc, spreads, place, *is_wanted)?;
+        rows.push(found)?;
     }
     Ok(rows)
 }
@@ -362,12 +396,15 @@ pub(crate) fn gather(
     let spreads = gather_spreads(alloc, nodes)?;
     let used = gather_used(alloc, nodes, count)?;
     let rows = gather_targets(alloc, &fragments, nodes, count)?;
-    let reached = gather_reached(alloc, &Spreads { rows }, count)?;
+    let ordered = is_ordered(alloc, rows.as_slice())?;
+    let wanted = gather_wanted(alloc, document, nodes, ordered, count)?;
+    let reached = gather_reached(alloc, &Spreads { rows }, wanted.as_slice())?;
     Ok(Tables {
         fragments,
         variables,
         spreads,
         used,
+        ordered,
         reached,
     })
 }

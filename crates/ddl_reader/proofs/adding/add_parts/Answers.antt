@@ -1,4 +1,4 @@
-use Rattle.std.proofs.Common.{List, Ok, sym, ap, ◌∙◌}
+use Rattle.std.proofs.Common.{List, sym, ap, ◌∙◌}
 use Rattle.std.proofs.lemmas.Result.{err_from_is_err_and}
 use Rattle.pg_base.proofs.ListSteps.{drop-past}
 use Rattle.pg_catalog.specs.declared.part.Part.{Part}

@@ -1,6 +1,6 @@
-use Rattle.std.proofs.Common.{◌≡◌, ◌∙◌, sym, ap, take, true, false, arith}
+use Rattle.std.proofs.Common.{◌∙◌, sym, ap, arith}
 use Rattle.pg_base.specs.declared.pos.Pos.{Pos}
-use Rattle.ddl_reader.specs.Stops.{lexemes_before, stands_at}
+use Rattle.ddl_reader.specs.Stops.{stands_at}
 use Rattle.ddl_reader.proofs.Fronts.{begins, over, found, goes_on, enough}
 use Rattle.ddl_reader.proofs.fitting.first_before.Goals as goal
 

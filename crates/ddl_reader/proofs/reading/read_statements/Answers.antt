@@ -1,11 +1,10 @@
-use Rattle.std.proofs.Common.{◌≡◌, ◌+◌, ◌-◌, List, [], length, refl, sym, ap, ◌∙◌}
+use Rattle.std.proofs.Common.{◌+◌, ◌-◌, List, [], length, refl, ap, ◌∙◌}
 use Rattle.std.proofs.lemmas.Result.{err_from_is_err_and}
 use Rattle.pg_base.specs.Catalog.{CatalogParts}
 use Rattle.pg_catalog.specs.Built.{empty}
 use Rattle.ddl_reader.specs.declared.lexeme.Lexeme.{Lexeme}
 use Rattle.ddl_reader.specs.declared.statement.InsertStatement.{InsertStatement}
 use Rattle.ddl_reader.specs.declared.statement.Row.{Row}
-use Rattle.ddl_reader.specs.Lexemes.{lexemes}
 use Rattle.ddl_reader.specs.Script.{progress, statements, read}
 use Rattle.ddl_reader.proofs.ScriptTurns.{turns_begin, turn_stops, turn_ends, turn_goes_on, turns_run_out}
 use Rattle.ddl_reader.proofs.reading.read_statements.Goals as goal

@@ -1,6 +1,5 @@
-use Rattle.std.proofs.Common.{◌≡◌, map, take, drop}
+use Rattle.std.proofs.Common.{◌≡◌, take, drop}
 use Rattle.pg_base.specs.Lists.{EachPair}
-use Rattle.pg_catalog.specs.Names.{column_names}
 use Rattle.ddl_reader.specs.Script.{first_fault}
 use Rattle.ddl_reader.specs.Destinations.{IsDestination}
 use Rattle.ddl_reader.proofs.resolving.look_up_all.Given as goal

@@ -1,6 +1,6 @@
-use Rattle.std.proofs.Common.{◌≡◌, ◌∙◌, ap, refl, List, [], ◌∷◌, ◌++◌, rules, arith}
+use Rattle.std.proofs.Common.{◌∙◌, ap, refl, List, [], ◌∷◌, ◌++◌, rules, arith}
 use Rattle.std.proofs.lemmas.Grind.{common_steps}
-use Rattle.parse_rules.specs.Parser.{Outcome, and_then, pure, while_from}
+use Rattle.parse_rules.specs.Parser.{Outcome, and_then, pure}
 use Rattle.parse_rules.proofs.Turns.{while_begins_within, while_ends, while_goes_on, while_runs_out}
 use Rattle.ddl_reader.specs.declared.lexeme.Lexeme.{Lexeme}
 use Rattle.ddl_reader.specs.declared.word.Word.TheVariants as word

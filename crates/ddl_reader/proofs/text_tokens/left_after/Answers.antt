@@ -1,7 +1,6 @@
-use Rattle.std.proofs.Common.{◌≡◌, ◌∙◌, sym, ap, subst, length, Result, false, arith}
+use Rattle.std.proofs.Common.{◌∙◌, sym, ap, subst, length, Result, arith}
 use Rattle.sql_lex.specs.declared.token.Token.{Token}
 use Rattle.sql_lex.specs.declared.token.LexFault.{LexFault}
-use Rattle.sql_lex.specs.Lex.{IsTokenOf}
 use Rattle.sql_lex.proofs.Known.{token_order}
 use Rattle.ddl_reader.specs.Lexemes.{after_by, lexemes_from, IsReadOf}
 use Rattle.ddl_reader.proofs.Places.{after_token-bound, token-shortens}
