@@ -42,7 +42,8 @@ row_into d row = record {
 }
 
 -- the row goes to the destination of its INSERT's first one
-pub record IsRowInto (places : List InsertPlace) (destinations : List Destination) (row : Row) (made : RowText) : Type 0 where
+pub record IsRowInto (places : List InsertPlace) (destinations : List Destination) (row : Row) (made : RowText)
+    : Type 0 where
   pub place : InsertPlace
   pub destination : Destination
   pub written : slice_get places row.insert ≡ Some place
