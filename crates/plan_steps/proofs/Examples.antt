@@ -1,5 +1,5 @@
 -- The check of small plans, computed.
-use Rattle.std.proofs.Common.{◌≡◌, ℕ, List, [], ◌∷◌, Some, None, true, false, refl}
+use Rattle.std.proofs.Common.{◌≡◌, ℕ, List, [], ◌∷◌, None, true, false, refl}
 use Rattle.pg_base.specs.Base.{BaseParts}
 use Rattle.pg_base.specs.declared.value.Value.TheVariants as value
 use Rattle.place_tree.specs.declared.place.Place.{Place}

@@ -1,7 +1,24 @@
+pub mod Asked
+pub mod AskedMet
+pub mod Bools
+pub mod Checked
 pub mod Due
 pub mod Earlier
 pub mod Examples
+pub mod Few
+pub mod Keyed
 pub mod Listings
+pub mod Meetings
+pub mod OneRow
+pub mod Plain
+mod PlainExample
+pub mod Reached
+pub mod Running
 pub mod Served
 pub mod Tests
+pub mod Totals
+pub mod Trees
+pub mod TypedTrees
+pub mod Unders
 pub mod Vals
+pub mod Visits

@@ -96,7 +96,7 @@ module _ (m : Moment) (plan : Plan) (tree : Tree) (before : (k : ℕ) (s : Step)
   at_step path k = listing_in (val_at (vals path) k)
 
   -- a fetch of this table and order, with these names
-  record IsCursorOf (k table : ℕ) (names : List (List ℕ)) (order : List By) : Type 0 where
+  pub record IsCursorOf (k table : ℕ) (names : List (List ℕ)) (order : List By) : Type 0 where
     fetch : FetchStep
     is_fetch : slice_get plan.steps k ≡ Some (step.Fetch fetch)
     of_table : (out-FetchStep fetch).table ≡ table
@@ -104,7 +104,7 @@ module _ (m : Moment) (plan : Plan) (tree : Tree) (before : (k : ℕ) (s : Step)
     of_names : order_names m.base table order ≡ names
 
   -- the list of a fetch
-  record IsList (k : ℕ) (path : Path) (l : Listed) : Type 0 where
+  pub record IsList (k : ℕ) (path : Path) (l : Listed) : Type 0 where
     cursors : IsCursorOf k l.table l.names l.order
     total : (at_step path k).total ≡ l.total
     from : (at_step path k).from ≡ l.from
@@ -114,7 +114,7 @@ module _ (m : Moment) (plan : Plan) (tree : Tree) (before : (k : ℕ) (s : Step)
   needs_at None = false
   needs_at (Some i) = needs_rows m.base.schema tree.places i
 
-  abbrev Stands : Option ℕ → Basis → Path → Stand → Type 0
+  abbrev pub Stands : Option ℕ → Basis → Path → Stand → Type 0
   Stands i OnNothing path s = ⊤
   Stands i (OnRow k) path s = (row : Row) × (s ≡ AtRow row) × LikeRow k path row
   Stands i (OnList k) path s = (l : Listed) × (s ≡ AtList l) × IsList k path l × (needs_at i ≡ true → (at_step path k).rows ≡ l.rows)
@@ -135,23 +135,23 @@ module _ (m : Moment) (plan : Plan) (tree : Tree) (before : (k : ℕ) (s : Step)
   row_val i OnGiven path s st item is = (st.0, ap stand_cells st.1, ap row_in (val_of m path plan.steps item step.Given is) ∙ given_val m.given ∙ st.2)
   row_val i _ path s st item is = absurd is
 
-  key_due : (i : Option ℕ) (h : Basis) (path : Path) (s : Stand) → Stands i h path s → (f : FetchStep) (key : KeyCells) → KeyServes plan.steps h m.base m.vars f key → key_at m f (vals path) ≡ Some (key_of key (stand_cells s))
+  pub key_due : (i : Option ℕ) (h : Basis) (path : Path) (s : Stand) → Stands i h path s → (f : FetchStep) (key : KeyCells) → KeyServes plan.steps h m.base m.vars f key → key_at m f (vals path) ≡ Some (key_of key (stand_cells s))
   key_due i h path s st f (Given cells) q = ap (key_by m f (vals path)) q.0 ∙ ap (λ c. Some c) q.1
   key_due i h path s st f (OfParent columns) q =
       let r = row_val i h path s st q.0 q.2 in
       ap (key_by m f (vals path)) q.1 ∙ ap (key_from (out-FetchStep f).parent_columns) r.2 ∙ ap (λ cs. Some (cells_at cs r.0.cells)) q.3 ∙ ap (λ cells. Some (cells_at columns cells)) (sym r.1)
 
   -- the listing of a fetch that serves
-  listing_served : (h : Basis) (i : ℕ) (f : FetchStep) (due : Fetch) → FetchServes plan.steps h m.base tree m.vars i f due → (key : List Cell) → listing_for m f (Some key) ≡ listing_due m.tables due (out-FetchStep f).rows key
+  pub listing_served : (h : Basis) (i : ℕ) (f : FetchStep) (due : Fetch) → FetchServes plan.steps h m.base tree m.vars i f due → (key : List Cell) → listing_for m f (Some key) ≡ listing_due m.tables due (out-FetchStep f).rows key
   listing_served h i f due q key =
       listing_is m.base m.tables m.vars f key
       ∙ (λ j. listing_by m.tables (record { table = q.table j; by = q.by j; condition = q.condition j; order = q.order j; window = q.window j; rows = (out-FetchStep f).rows; children = [] }) key)
 
-  step_listing : (path : Path) (k : ℕ) (f : FetchStep) → slice_get plan.steps k ≡ Some (step.Fetch f) → at_step path k ≡ listing_for m f (key_at m f (vals path))
+  pub step_listing : (path : Path) (k : ℕ) (f : FetchStep) → slice_get plan.steps k ≡ Some (step.Fetch f) → at_step path k ≡ listing_for m f (key_at m f (vals path))
   step_listing path k f at =
       ap listing_in (val_of m path plan.steps k (step.Fetch f) at) ∙ ap (listing_for m f) (key_taken m path plan.steps k f (λ q e. earlier k q f at e))
 
-  found_due : (i : ℕ) (parent : Option ℕ) (h : Basis) (path : Path) (s : Stand) → Stands parent h path s → (k : ℕ) (f : FetchStep) → slice_get plan.steps k ≡ Some (step.Fetch f) → (due : Fetch) → FetchServes plan.steps h m.base tree m.vars i f due →
+  pub found_due : (i : ℕ) (parent : Option ℕ) (h : Basis) (path : Path) (s : Stand) → Stands parent h path s → (k : ℕ) (f : FetchStep) → slice_get plan.steps k ≡ Some (step.Fetch f) → (due : Fetch) → FetchServes plan.steps h m.base tree m.vars i f due →
       at_step path k ≡ listing_due m.tables due (out-FetchStep f).rows (key_of due.key (stand_cells s))
   found_due i parent h path s st k f at due q =
       step_listing path k f at ∙ ap (listing_for m f) (key_due parent h path s st f due.key q.key) ∙ listing_served h i f due q (key_of due.key (stand_cells s))
@@ -387,7 +387,7 @@ module _ (m : Moment) (plan : Plan) (tree : Tree) (before : (k : ℕ) (s : Step)
             other_agrees i p f path s at d st k f.does refl (sym (ap is_row_field d) ∙ row) (sym (ap is_mutation d) ∙ mut)
             (subst (λ o. OtherServes m.base tree plan.steps p (basis_above bases p.parent) (bases i) k o) d q)
 
-      place_agrees : (i : ℕ) (p : Place) (path : Path) (s : Stand) → slice_get tree.places i ≡ Some p → Stands p.parent (basis_above bases p.parent) path s → is_mutation (does_of m.base.schema p) ≡ false → Serves m.base tree constraints plan bases i p →
+      pub place_agrees : (i : ℕ) (p : Place) (path : Path) (s : Stand) → slice_get tree.places i ≡ Some p → Stands p.parent (basis_above bases p.parent) path s → is_mutation (does_of m.base.schema p) ≡ false → Serves m.base tree constraints plan bases i p →
           Agree (Stands (Some i) (bases i)) (denoted.denoted m plan i p path) (resolved m.base m.tables m.vars tree.places p s)
       unfolding resolved
       place_agrees i p path s at st mut sv =
@@ -403,11 +403,11 @@ pub record IsTreeOf (base : BaseParts) (tree : Tree) (r : RootOf) : Type 0 where
 
 module _ (m : Moment) (plan : Plan) (tree : Tree) (before : (k : ℕ) (s : Step) → slice_get plan.steps k ≡ Some s → IfSome (named_by s) (λ j. j < k)) (bases : ℕ → Basis) where
   -- below a mutation field
-  abbrev Below : Option ℕ → Path → Stand → Type 0
+  abbrev pub Below : Option ℕ → Path → Stand → Type 0
   Below None path s = ⊥
   Below (Some j) path s = Stands m plan tree before (Some j) (bases j) path s
 
-  below_stands : (parent : Option ℕ) (path : Path) (s : Stand) → Below parent path s → Stands m plan tree before parent (basis_above bases parent) path s
+  pub below_stands : (parent : Option ℕ) (path : Path) (s : Stand) → Below parent path s → Stands m plan tree before parent (basis_above bases parent) path s
   below_stands None path s h = absurd h
   below_stands (Some j) path s h = h
 
@@ -435,7 +435,7 @@ served base plan tree constraints before all tables vars (root.Field place row) 
 
 -- ---- soundness
 
-each_at : {A : Type 0} (P : A → Type 0) (xs : List A) (k : ℕ) (x : A) → Each P xs → slice_get xs k ≡ Some x → P x
+pub each_at : {A : Type 0} (P : A → Type 0) (xs : List A) (k : ℕ) (x : A) → Each P xs → slice_get xs k ≡ Some x → P x
 each_at P [] k x h e = cc
 each_at P (y ∷ ys) zero x h e = let same : y ≡ x = cc in subst P same h.0
 each_at P (y ∷ ys) (suc k) x h e = each_at P ys k x h.1 e
@@ -446,11 +446,11 @@ mutated_is (Some (does.Update t k)) n e = refl
 mutated_is (Some (does.Delete t k)) n e = refl
 mutated_is _ n e = cc
 
-some_and : {A : Type 0} (P : A → Type 0) (o : Option A) → IsSomeAnd o P → (x : A) × (o ≡ Some x) × P x
+pub some_and : {A : Type 0} (P : A → Type 0) (o : Option A) → IsSomeAnd o P → (x : A) × (o ≡ Some x) × P x
 some_and P None h = absurd h
 some_and P (Some x) h = (x, refl, h)
 
-tree_for : (base : BaseParts) (tree : Tree) (r : RootOf) → IsWellMade base tree → IsRootOf base tree r → IsTreeOf base tree r
+pub tree_for : (base : BaseParts) (tree : Tree) (r : RootOf) → IsWellMade base tree → IsRootOf base tree r → IsTreeOf base tree r
 tree_for base tree root.Query made is = record {
   named = made.named;
   at_root = made.at_root;

@@ -2,6 +2,7 @@ pub mod Built
 pub mod Chains
 pub mod Check
 pub mod Denoted
+pub mod Fetches
 pub mod Filled
 pub mod Fitting
 pub mod Named
