@@ -47,8 +47,8 @@ field_that d = record { name = []; args = []; ty = any_type; does = d; deprecate
 abbrev object_of : List FieldDef → TypeDef
 object_of fields = record { name = []; kind = kind.Object fields }
 
--- 0 Query: the users, the posts, a user by the key; 1 User: a column, the posts, the profile; 2 Post: a column, the author;
--- 3 Profile: a column; 4 a connection: its rows, their number; 5 Mutation: a user made; 6 its payload: the user
+-- 0 Query: the users, the posts, a user by the key; 1 User: a column, the posts, the profile; 2 Post: a column, the
+-- author; 3 Profile: a column; 4 a connection: its rows, their number; 5 Mutation: a user made; 6 its payload: the user
 abbrev pub blog_schema : SchemaParts
 blog_schema = record {
   types =

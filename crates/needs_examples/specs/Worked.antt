@@ -48,8 +48,8 @@ posts = place None 0 1 []
 abbrev user_by_key : Place
 user_by_key = place None 0 2 []
 
--- fields below the place above: of a connection its rows and their number; of a user a column, the posts, a page of them
--- and the profile; of a post the author
+-- fields below the place above: of a connection its rows and their number; of a user a column, the posts, a page of
+-- them and the profile; of a post the author
 
 abbrev nodes : ℕ → Place
 nodes above = place (Some above) 4 0 []
