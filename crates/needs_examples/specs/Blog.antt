@@ -20,7 +20,8 @@ abbrev key_on : List ℕ → KeyDef
 key_on columns = record { name = []; columns = columns; primary = true; tags = no_tags }
 
 abbrev link_to : List ℕ → ℕ → LinkDef
-link_to columns target = record { name = []; columns = columns; target = target; target_columns = 0 ∷ []; tags = no_tags }
+link_to columns target =
+    record { name = []; columns = columns; target = target; target_columns = 0 ∷ []; tags = no_tags }
 
 abbrev table_of : List KeyDef → List LinkDef → TableDef
 table_of keys links = record { name = []; columns = []; keys = keys; links = links; tags = no_tags }
