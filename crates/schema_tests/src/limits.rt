@@ -95,6 +95,21 @@ type DeleteTPayload {
 }
 ";
 
+/// What comments say of the same table that is no tag, or a tag that means nothing there.
+const ONE_TABLE_COMMENTS: &str = "
+COMMENT ON TABLE t IS '@fieldName a\n@foreignFieldName b\n@deprecated c\n@other d\nA table.\n@name e';
+COMMENT ON COLUMN t.id IS '@fieldName a\n@foreignFieldName b\n@behavior -list -connection -delete\nA number.';
+COMMENT ON CONSTRAINT t_pkey ON t IS '@name a\n@foreignFieldName b
+@behavior -select -list -connection -insert -update -delete -order -filter';";
+
+/// A key in the last of the largest tables: its field of Query is the 20,001st, and its name is none.
+const ONE_KEY_MORE: &str = "
+ALTER TABLE t195 ADD UNIQUE (a); COMMENT ON TABLE t195 IS '@behavior -insert -update -delete';
+COMMENT ON CONSTRAINT t195_a_key ON t195 IS '@fieldName 1';";
+
+/// A name that is none in an earlier type.
+const ONE_COLUMN_RENAMED: &str = "COMMENT ON COLUMN t195.c1 IS '@name 2';";
+
 const BLOG: &str = "
 CREATE TABLE users (id serial PRIMARY KEY, name text NOT NULL, email text UNIQUE);
 CREATE TABLE posts (id serial PRIMARY KEY, author_id integer REFERENCES users, title text NOT NULL);
@@ -348,6 +363,14 @@ fn the_smallest_schema_is_printed_whole(rt: HostRuntime) -> Result<(), Fail> {
 }
 
 #[test]
+fn tags_that_mean_nothing_change_nothing(rt: HostRuntime) -> Result<(), Fail> {
+    let script = format!(in rt.alloc(); "{ONE_TABLE}{ONE_TABLE_COMMENTS}")?;
+    let outcome = outcome_of(rt.alloc(), script.as_bytes())?;
+    assert_eq!(rt; outcome.as_slice(), ONE_TABLE_SCHEMA.as_bytes());
+    Ok(())
+}
+
+#[test]
 fn a_blog_has_its_types(rt: HostRuntime) -> Result<(), Fail> {
     let outcome = outcome_of(rt.alloc(), BLOG.as_bytes())?;
     let text = str::from_utf8(outcome.as_slice()).ok().ok_or("no text")?;
@@ -363,5 +386,17 @@ fn objects_have_at_most_20000_fields(rt: HostRuntime) -> Result<(), Fail> {
     let script = largest_script(rt.alloc(), 1)?;
     let outcome = outcome_of(rt.alloc(), script.as_bytes())?;
     assert_eq!(rt; outcome.as_slice(), b"schema fault 3".as_slice());
+    Ok(())
+}
+
+#[test]
+fn too_many_fields_come_before_other_faults_of_their_type(rt: HostRuntime) -> Result<(), Fail> {
+    let mut script = largest_script(rt.alloc(), 0)?;
+    script.push_str(ONE_KEY_MORE)?;
+    let outcome = outcome_of(rt.alloc(), script.as_bytes())?;
+    assert_eq!(rt; outcome.as_slice(), b"schema fault 3".as_slice());
+    script.push_str(ONE_COLUMN_RENAMED)?;
+    let outcome = outcome_of(rt.alloc(), script.as_bytes())?;
+    assert_eq!(rt; outcome.as_slice(), b"schema fault 2: 2".as_slice());
     Ok(())
 }
