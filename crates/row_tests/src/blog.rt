@@ -25,11 +25,13 @@ fn text_of(alloc: Global, letter: u8, count: usize) -> Result<Text, Fail> {
     Ok(Text::of(alloc, letters.as_str())?)
 }
 
-/// A cell as one letter tells it: a digit, `~` for null, `*` for a text of 100,000 letters `x`, or a text of this letter.
+/// A cell as one letter tells it: a digit, `~` for null, `*` for a text of 100,000 letters `x`, `@` for Ann's address, or a
+/// text of this letter.
 pub(crate) fn cell_of(alloc: Global, letter: u8) -> Result<Cell, Fail> {
     match letter {
         b'~' => Ok(Cell::Null),
         b'*' => Ok(Cell::Text(text_of(alloc, b'x', 100_000)?)),
+        b'@' => Ok(Cell::Text(Text::of(alloc, "ann@x")?)),
         b'0'..=b'9' => Ok(Cell::Int(i64::from(letter - b'0'))),
         _ => Ok(Cell::Text(text_of(alloc, letter, 1)?)),
     }

@@ -5,7 +5,7 @@ ghost use Rattle.rel_model.specs.Picked.{row_numbered};
 ghost use Rattle.row_tables.specs.Set.{IsSetOf, list_at};
 
 use crate::blog::{cells_of, letter_at, loaded, number_at};
-use pg_base::{Catalog, Memory};
+use pg_base::{Catalog, Cell, Memory};
 use rel_model::Row;
 use row_tables::TableSet;
 use row_tables::laws::valid_tables_have_form;
@@ -66,14 +66,31 @@ fn number_of(row: Option<&Row>) -> u64 {
     }
 }
 
-/// The numbers of the notes, and the next one.
+/// A cell as one letter: a digit, `~` for null, `*` for a long text, or a text's first letter.
+fn show_cell(out: &mut String, cell: &Cell) -> Result<(), Fail> {
+    match cell {
+        Cell::Null => out.push_str("~")?,
+        Cell::Int(value) => write!(out, "{value}")?,
+        Cell::Text(text) if text.bytes().len() > 1 => out.push_str("*")?,
+        Cell::Text(text) => out.push_str(str::from_utf8(text.bytes()).unwrap_or("?"))?,
+        Cell::Bool(_) | Cell::EnumCase(_) => out.push_str("?")?,
+    }
+    Ok(())
+}
+
+/// The notes, each with its number and cells, and the number of the next one.
 fn notes_in(alloc: Global, set: &TableSet) -> Result<String, Fail> {
     let mut out = String::new(alloc);
     if set.tables() <= NOTES as usize {
         return Ok(out);
     }
     for place in 0..set.len(NOTES) {
-        write!(out, "{} ", set.at(NOTES, place).number)?;
+        let row = set.at(NOTES, place);
+        write!(out, "{}=", row.number)?;
+        for cell in row.cells.as_slice() {
+            show_cell(&mut out, cell)?;
+        }
+        out.push_str(" ")?;
     }
     write!(out, "next {}", set.next_number(NOTES))?;
     Ok(out)
@@ -88,20 +105,23 @@ fn left(alloc: Global, set: &TableSet, number: u64) -> Result<String, Fail> {
 }
 
 /// What is done with a set of the blog, and what comes of it: the notes with one of a number put (`w`), the notes without a
-/// number (`o`), and the number of the user by a key (`k`), 0 where there is none.
+/// number (`o`), and the number of the user by a key (`k`), 0 where there is none. Notes stand as NUMBER=CELLS.
 const DONE: &str = "\
-w4 4* => 1 2 3 4 next 5
-w9 9s => 1 2 3 9 next 10
-w2 2~ => 1 2 3 next 4
+w4 4* => 1=1~ 2=2s 3=3* 4=4* next 5
+w9 9s => 1=1~ 2=2s 3=3* 9=9s next 10
+w2 2~ => 1=1~ 2=2~ 3=3* next 4
+w4 7s => 1=1~ 2=2s 3=3* 4=7s next 5
 w0 0s => no place
 w4 4 => no place
-o1 => 2 3 next 4
-o3 => 1 2 next 4
-o7 => 1 2 3 next 4
+o1 => 2=2s 3=3* next 4
+o3 => 1=1~ 2=2s next 4
+o7 => 1=1~ 2=2s 3=3* next 4
 k0 2 => 2
 k0 3 => 0
 k0 ~ => 0
 k0 22 => 0
+k1 @ => 1
+k1 1 => 0
 k1 ~ => 0
 k1 * => 0
 k2 2 => 0

@@ -30,13 +30,17 @@ t1 o1 a31 k => 5[3..5] 5 4;
 t1 o1 z52 k => 5[0..3] 1 2 3;
 t1 o1 a11 z4~ k => 5[1..4] 2 3 5;
 t1 o1- a4~ k => 5[1..5] 5 1 2 3;
+t1 o1 a11 z52 s1 f4 k => 5[2..3] 3;
 t1 n0 f2 k => 5[0..2];
 t1 b1 k1 k~ => 3[0..3] 1 2 3;0[0..0];
 t1 b1 o0- f2 k1 k2 k9 k~ k1 => 3[0..2] 3 2;1[0..1] 5;0[0..0];0[0..0];3[0..2] 3 2;
 t1 b1 l1 k2 k1 k2 k1 => 1[0..1] 5;3[2..3] 3;1[0..1] 5;3[2..3] 3;
 t1 b1 b0 k12 k~4 k25 k21 => 1[0..1] 2;0[0..0];1[0..1] 5;0[0..0];
+t1 b0 b1 k4~ k12 k52 k31 => 0[0..0];0[0..0];1[0..1] 5;1[0..1] 3;
 t1 b1 p0 o0- ^ t0 k => 2[0..2] 1(3[0..3] 3 2 1) 2(1[0..1] 5);
 t2 b1 p0 ^ t1 b1 p0 ^ t0 k => 2[0..2] 1(3[0..3] 1(1[0..1] 1) 2(0[0..0]) 3(1[0..1] 2)) 2(1[0..1] 5(1[0..1] 3));
+t1 b1 b0 p1 p0 ^ t1 k => 5[0..5] 1(1[0..1] 1) 2(1[0..1] 2) 3(1[0..1] 3) 4(0[0..0]) 5(1[0..1] 5);
+t1 b1 p0 o0- f2 ^ t0 k => 2[0..2] 1(3[0..2] 3 2) 2(1[0..1] 5);
 t0 b0 p1 & t2 b1 p0 n0 ^ t1 k => 5[0..5] 1(1[0..1] 1)(1[0..1]) 2(1[0..1] 1)(0[0..0]) 3(1[0..1] 1)(1[0..1]) 4(0[0..0])(0[0..0]) 5(1[0..1] 2)(1[0..1]);
 t3 c1* k => 1[0..1] 3;
 t3 o1- k => 3[0..3] 1 3 2;
@@ -46,7 +50,7 @@ t3 b1 p1 ^ t3 k => 3[0..3] 1(0[0..0]) 2(1[0..1] 2) 3(1[0..1] 3);
 t1 r5 k => 5[0..5] 1 2 3 4 5;
 t1 r4 k => too many
 t1 n0 r0 k => 5[0..5];
-t1 b1 k1 k1 k1 k1 r: => too many
+t1 b1 k1 k1 k1 k1 r; => too many
 t1 b1 p0 ^ t0 r6 k => 2[0..2] 1(3[0..3] 1 2 3) 2(1[0..1] 5);
 t1 b1 p0 ^ t0 r5 k => too many
 t4 k => unfit
@@ -112,5 +116,38 @@ fn planned_calls_fail(rt: HostRuntime) -> Result<(), Fail> {
     let held = opened(rt.alloc())?;
     let text = three_calls(rt.alloc(), &held)?;
     assert!(rt; text.as_str() == "store store 1[0..1] 2; ");
+    Ok(())
+}
+
+/// Statements, each with how many were sent after it, and how many rows they got, from the first one on. One that isn't of
+/// the catalog isn't sent.
+const COUNTED: &str = "\
+t1 k => 1 5
+t1 r4 k => 2 5
+t1 n0 k => 3 5
+t1 b1 p0 ^ t0 k => 4 11
+t4 k => 4 11
+t1 b1 f2 k1 k2 k9 k~ => 5 14
+";
+
+/// The lines with what was counted in place of their results.
+fn counted(alloc: Global, held: &Held, lines: &str) -> Result<String, Fail>
+    requires { HoldsFor held.now.catalog held.now.at }
+{
+    let mut rows = MemRows::new(alloc);
+    let mut out = String::new(alloc);
+    for line in lines.lines() {
+        let statement = line.split(" => ").next().unwrap_or(line);
+        let _answer = answer_to(alloc, &mut rows, held, statement)?;
+        write!(out, "{statement} => {} {}\n", rows.sent(), rows.got())?;
+    }
+    Ok(out)
+}
+
+#[test]
+fn statements_are_counted(rt: HostRuntime) -> Result<(), Fail> {
+    let held = opened(rt.alloc())?;
+    let text = counted(rt.alloc(), &held, COUNTED)?;
+    assert!(rt; text.as_str() == COUNTED, "{text}");
     Ok(())
 }
