@@ -3,7 +3,8 @@
     python3 .ci/sdl.py < SDL                   the text on standard input
     python3 .ci/sdl.py PROGRAM SCRIPT..        what `PROGRAM schema SCRIPT` writes, for each script
 
-Prints what the library finds wrong, and then ends with status 1. Where no library is installed, it says so and passes.
+Prints what the library finds wrong, and each script that has no schema, and then ends with status 1. Where no library is
+installed, it says so and passes.
 """
 
 import subprocess
@@ -35,26 +36,22 @@ def definitions(text):
     return [part.strip() for part in text.split("\n\n") if part.strip()]
 
 
-def texts():
-    """Each text with the name that it is reported under."""
-    if len(sys.argv) == 1:
-        yield "standard input", sys.stdin.read()
-        return
-    for script in sys.argv[2:]:
-        run = subprocess.run([sys.argv[1], "schema", script], capture_output=True, check=False)
-        if run.returncode == 0:
-            yield script, run.stdout.decode()
-        else:
-            print(f"sdl: {script}: no schema: {run.stdout.decode().strip()}")
+def written(script):
+    """What is wrong with what the program writes for a script, as lines."""
+    run = subprocess.run([sys.argv[1], "schema", script], capture_output=True, check=False)
+    if run.returncode != 0:
+        return [f"no schema: {run.stdout.decode().strip()}"]
+    return faults_of(run.stdout.decode())
 
 
 def main():
-    failed = False
-    for name, text in texts():
-        for fault in faults_of(text):
-            print(f"sdl: {name}: {fault}")
-            failed = True
-    return 1 if failed else 0
+    if len(sys.argv) == 1:
+        faults = [("standard input", fault) for fault in faults_of(sys.stdin.read())]
+    else:
+        faults = [(script, fault) for script in sys.argv[2:] for fault in written(script)]
+    for name, fault in faults:
+        print(f"sdl: {name}: {fault}")
+    return 1 if faults else 0
 
 
 sys.exit(main())
