@@ -8,6 +8,7 @@ ghost use Rattle.plan_constraints.specs.Same.{with_constraints};
 ghost use Rattle.step_plan.specs.Listed.{noted_as, noted_members, vars_in_items, vars_in_members};
 
 use crate::variables::{How, note_field, note_variable, path_to};
+use crate::written::written;
 use gql_input::{ArgMember, ArgValue};
 use pg_base::{Member, Memory, Text, Value, Vars};
 use place_tree::{Place, PlaceArg};
@@ -71,18 +72,6 @@ fn note_members(
         note_in(alloc, vars, how, &member.value, list)?;
     }
     Ok(())
-}
-
-/// What is written for an argument.
-fn written(args: &[PlaceArg], arg: u32) -> Option<&ArgValue>
-    ensures { option_map (λ a. a.now) result ≡ arguments.written args.now arg }
-{
-    for a in args {
-        if a.arg == arg {
-            return Some(&a.value);
-        }
-    }
-    None
 }
 
 /// Notes first, last, offset, before or after.

@@ -30,7 +30,7 @@ pub(crate) fn path_to(alloc: Global, name: &Text) -> Result<Items<Part>, Memory>
 }
 
 /// The path to a field of a variable.
-fn path_below(alloc: Global, name: &Text, field: &Text) -> Result<Items<Part>, Memory>
+pub(crate) fn path_below(alloc: Global, name: &Text, field: &Text) -> Result<Items<Part>, Memory>
     ensures { IfOk result (λ path. path ≡ to_field name.now field.now) }
 {
     let mut path = Items::new(alloc);
@@ -39,7 +39,7 @@ fn path_below(alloc: Global, name: &Text, field: &Text) -> Result<Items<Part>, M
     Ok(path)
 }
 
-fn is_null(value: &Value) -> bool
+pub(crate) fn is_null(value: &Value) -> bool
     ensures { result ≡ values.is_null value.now }
 {
     match value {
