@@ -312,7 +312,7 @@ fn fetch_by(
 
 /// What a place asks of the tables; none where it is no row field.
 #[tactic(auto, unfolding(place_tree::specs::Fetch::fetch_of))]
-pub(crate) fn fetch_of(
+pub fn fetch_of(
     alloc: Global,
     base: &Base,
     vars: &Vars,
@@ -366,7 +366,7 @@ fn message_of(alloc: Global, error: Option<&'static str>) -> Result<Option<Text>
 
 /// The first error in the arguments of a row field, as a message: a null at a non-null position, then those of a
 /// connection's window.
-pub(crate) fn fetch_error(
+pub fn fetch_error(
     alloc: Global,
     base: &Base,
     vars: &Vars,

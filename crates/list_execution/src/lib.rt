@@ -16,3 +16,8 @@ mod orders;
 mod windows;
 
 pub use execution::{ExecutionFault, execute};
+pub use fetching::{fetch_error, fetch_of};
+pub use lists::{does_of, needs_rows};
+pub use lookups::{cases_at, columns_of, field_of};
+pub use marks::{bool_cell, int_cell, mark_in, row_cursor};
+pub use names::place_named;

@@ -89,7 +89,8 @@ impl Asker for Lists<'_> {
 
 // ---- visited rows
 
-fn does_of(schema: &Schema, place: &Place) -> Option<Does>
+/// What the field of a place does.
+pub fn does_of(schema: &Schema, place: &Place) -> Option<Does>
     ensures { result ≡ fields.does_of schema.now place.now }
 {
     match field_of(schema, place) {
@@ -191,7 +192,7 @@ fn shows_under(schema: &Schema, place: &Place, number: u32) -> bool
 }
 
 /// Whether nodes, edges or pageInfo stands below the place with this number.
-fn needs_rows(schema: &Schema, places: &[Place], number: u32) -> bool
+pub fn needs_rows(schema: &Schema, places: &[Place], number: u32) -> bool
     ensures { result ≡ spec.needs_rows schema.now places.now number }
 {
     for place in places {

@@ -56,7 +56,7 @@ fn cases_there(schema: &Schema, ty: u32) -> &[Text]
 }
 
 /// The cases of the enum at a place.
-pub(crate) fn cases_at(schema: &Schema, ty: u32) -> &[Text]
+pub fn cases_at(schema: &Schema, ty: u32) -> &[Text]
     ensures value { result.now ≡ schema_of.cases_of (schema_of.kind_at schema.now ty) }
     ensures few { length result.now < 2 ^ 32 }
 {
@@ -90,7 +90,7 @@ fn field_there<'a>(schema: &'a Schema, place: &Place) -> Option<&'a FieldDef>
 }
 
 /// The definition of a place's field, and none for `__typename`.
-pub(crate) fn field_of<'a>(schema: &'a Schema, place: &Place) -> Option<&'a FieldDef>
+pub fn field_of<'a>(schema: &'a Schema, place: &Place) -> Option<&'a FieldDef>
     ensures value { option_map (λ f. f.now) result ≡ spec.field_of schema.now place.now }
     ensures few { IfSome result (λ f. length f.now.args < 2 ^ 32) }
 {
@@ -127,7 +127,7 @@ fn columns_there(catalog: &Catalog, table: u32) -> &[ColumnDef]
 }
 
 /// The columns of a table.
-pub(crate) fn columns_of(catalog: &Catalog, table: u32) -> &[ColumnDef]
+pub fn columns_of(catalog: &Catalog, table: u32) -> &[ColumnDef]
     ensures value { result.now ≡ spec.columns_of catalog.now table }
     ensures few { length result.now < 2 ^ 32 }
 {

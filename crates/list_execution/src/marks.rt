@@ -17,7 +17,8 @@ use std::alloc::Global;
 
 // ---- from cursors to marks
 
-fn int_cell(kind: Kind, number: i64) -> Option<Cell>
+/// The cell that a number is in a column of a kind.
+pub fn int_cell(kind: Kind, number: i64) -> Option<Cell>
     ensures { result ≡ spec.int_cell kind number }
 {
     match kind {
@@ -30,7 +31,8 @@ fn int_cell(kind: Kind, number: i64) -> Option<Cell>
     }
 }
 
-fn bool_cell(kind: Kind, truth: bool) -> Option<Cell>
+/// The cell that a truth is in a column of a kind.
+pub fn bool_cell(kind: Kind, truth: bool) -> Option<Cell>
     ensures { result ≡ spec.bool_cell kind truth }
 {
     match kind {
@@ -159,7 +161,7 @@ pub(crate) fn mark_of_cursor(
 }
 
 /// The mark that the cursor in a text names.
-pub(crate) fn mark_in(
+pub fn mark_in(
     alloc: Global,
     catalog: &Catalog,
     columns: &[ColumnDef],
@@ -290,7 +292,7 @@ fn mark_text(
 }
 
 /// The cursor of a row of a table, in an order that has these names.
-pub(crate) fn row_cursor(
+pub fn row_cursor(
     alloc: Global,
     catalog: &Catalog,
     table: u32,

@@ -16,7 +16,7 @@ pub(crate) const ORDERING: usize = 6;
 pub(crate) const FILTERING: usize = 7;
 
 /// The place of the first that has the name.
-pub(crate) fn place_named(names: &[Text], name: &Text) -> Option<usize>
+pub fn place_named(names: &[Text], name: &Text) -> Option<usize>
     ensures value { result ≡ spec.place_named names.now name.now }
     ensures bound { IfSome result (λ place. place < length names.now) }
 {

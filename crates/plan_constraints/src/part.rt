@@ -25,7 +25,7 @@ impl Part {
     }
 
     /// Whether both are the same part.
-    pub(crate) fn is_same(&self, other: &Part) -> bool
+    pub fn is_same(&self, other: &Part) -> bool
         ensures { result ≡ same.same_part self.now other.now }
     {
         match self {

@@ -83,7 +83,12 @@ fn put_path_piece(out: &mut Vec<u8>, path: &[Part<'_>]) -> Result<(), Memory>
 }
 
 /// Appends an error.
-fn put_error(out: &mut Vec<u8>, message: &Text, pos: Pos, path: &[Part<'_>]) -> Result<(), Memory>
+pub fn put_error(
+    out: &mut Vec<u8>,
+    message: &Text,
+    pos: Pos,
+    path: &[Part<'_>],
+) -> Result<(), Memory>
     requires { spec.AreBelow (2 ^ 63) path.now }
     ensures { OnOk result (out.new.items ≡ out.old.items
         ++ spec.error_pieces message.now pos (map spec.part_of path.now)) }
@@ -95,7 +100,7 @@ fn put_error(out: &mut Vec<u8>, message: &Text, pos: Pos, path: &[Part<'_>]) -> 
 }
 
 /// Appends what stands before an error, where one has been written or none has.
-fn put_before(out: &mut Vec<u8>, some: bool) -> Result<(), Memory>
+pub fn put_before(out: &mut Vec<u8>, some: bool) -> Result<(), Memory>
     ensures { OnOk result (out.new.items ≡ out.old.items ++ spec.before_error some) }
 {
     if some {
@@ -138,7 +143,7 @@ fn put_event_error(
 }
 
 /// Appends the end of the errors, where there are some.
-fn put_after(out: &mut Vec<u8>, some: bool) -> Result<(), Memory>
+pub fn put_after(out: &mut Vec<u8>, some: bool) -> Result<(), Memory>
     ensures { OnOk result (out.new.items ≡ out.old.items ++ spec.errors_left some []) }
 {
     if some {

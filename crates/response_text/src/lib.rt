@@ -7,5 +7,7 @@ pub mod laws;
 mod path;
 mod response;
 
+pub use errors::{put_after, put_before, put_error};
 pub use fault::ResponseFault;
+pub use path::Part;
 pub use response::response_of;

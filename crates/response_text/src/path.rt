@@ -10,7 +10,7 @@ use place_tree::Event;
 
 /// A part of a path: a response key, or a place in a list.
 #[derive(Clone, Copy)]
-pub(crate) enum Part<'a> {
+pub enum Part<'a> {
     /// A member whose key is still to come.
     Member,
     Key(&'a Text),
