@@ -1,10 +1,10 @@
 //! The commands: from the files that they name to the text that they write.
 
 ghost use Rattle.std.specs.Prelude.{◌≡◌, ◌⊎◌, ◌++◌, ◌∷◌, [], ℕ, List, IfOk, IfErr, OnOk, option_map};
+ghost use Rattle.std.specs.Arc.{arc_value};
 ghost use Rattle.pg_base.specs.Base.{BaseParts};
-ghost use Rattle.rel_model.specs.Tables.{AreValidTables};
 ghost use Rattle.schema_build.specs.Sdl.{sdl_of};
-ghost use Rattle.request_core.specs.Load.{Loads, IsLoadFault};
+ghost use Rattle.request_core.specs.Load.{Loads, IsLoadFault, IsUsable};
 ghost use Rattle.request_core.specs.Request.{asked};
 ghost use Rattle.request_core.specs.Answer.{IsAnswer};
 ghost use Rattle.graphile_prog.specs.declared.status.Status.TheVariants as status_is;
@@ -14,12 +14,13 @@ ghost use Rattle.graphile_prog.specs.Words as words;
 ghost use Rattle.graphile_prog.specs.Commands as spec;
 ghost use Rattle.graphile_prog.specs.Parts as parts;
 
+use crate::answering::answer_loaded;
 use crate::status::Status;
 use crate::words::{Command, Query};
 use pg_base::limits::{MOST_DOCUMENT_BYTES, MOST_SCRIPT_BYTES, MOST_VARIABLES_BYTES};
 use pg_base::{Blob, Schema};
 use pg_io::{FileFault, Files};
-use request_core::{LoadError, Loaded, Request, answer_request, load};
+use request_core::{LoadError, Loaded, Request, load};
 use schema_build::print_schema;
 use std::alloc::Global;
 
@@ -149,9 +150,11 @@ fn answer_page<F: Files>(
     loaded: &Loaded,
     files: &mut F,
 ) -> Result<Page, Status>
+    requires { IsUsable (arc_value loaded.now.base) loaded.now.tables }
     ensures ok { IfOk result (λ page. parts.IsLineOf
         (outside (F.file files.old) (F.faults files.old) (F.faults files.new))
-        (words.query_of asks.entry) loaded.now.base loaded.now.tables (parts.written page)) }
+        (words.query_of asks.entry) (arc_value loaded.now.base) loaded.now.tables
+        (parts.written page)) }
     ensures err { IfErr result (OrMemory (AreRefused (spec.request_stages
         (outside (F.file files.old) (F.faults files.old) (F.faults files.new))
         (words.query_of asks.entry)))) }
@@ -169,8 +172,8 @@ fn answer_page<F: Files>(
 /// Reads the script's file, and loads it.
 fn load_file<F: Files>(alloc: Global, name: &str, files: &mut F) -> Result<Loaded, Status>
     ensures ok { IfOk result (λ loaded.
-        parts.IsLoaded (F.file files.old name.now) loaded.base loaded.tables) }
-    ensures valid { IfOk result (λ loaded. AreValidTables loaded.base.catalog loaded.tables) }
+        parts.IsLoaded (F.file files.old name.now) (arc_value loaded.base) loaded.tables) }
+    ensures usable { IfOk result (λ loaded. IsUsable (arc_value loaded.base) loaded.tables) }
     ensures err { IfErr result (OrMemory (AreRefused (spec.script_stages
         (outside (F.file files.old) (F.faults files.old) (F.faults files.new)) name.now))) }
     ensures quiet { OnOk result (CountsStay (F.faults files.old) (F.faults files.new)) }
@@ -185,8 +188,8 @@ fn load_file<F: Files>(alloc: Global, name: &str, files: &mut F) -> Result<Loade
 
 /// Loads a script.
 fn load_bytes(alloc: Global, script: &[u8]) -> Result<Loaded, Status>
-    ensures ok { IfOk result (λ loaded. Loads script.now loaded.base loaded.tables) }
-    ensures valid { IfOk result (λ loaded. AreValidTables loaded.base.catalog loaded.tables) }
+    ensures ok { IfOk result (λ loaded. Loads script.now (arc_value loaded.base) loaded.tables) }
+    ensures usable { IfOk result (λ loaded. IsUsable (arc_value loaded.base) loaded.tables) }
     ensures err { IfErr result (OrMemory (spec.IsRefusedBy script.now)) }
 {
     match load(alloc, script) {
@@ -203,9 +206,10 @@ fn answer_files<F: Files>(
     loaded: &Loaded,
     files: &mut F,
 ) -> Result<Blob, Status>
+    requires { IsUsable (arc_value loaded.now.base) loaded.now.tables }
     ensures ok { IfOk result (parts.IsAnsweredBy
         (outside (F.file files.old) (F.faults files.old) (F.faults files.new))
-        (words.query_of asks.entry) loaded.now.base loaded.now.tables) }
+        (words.query_of asks.entry) (arc_value loaded.now.base) loaded.now.tables) }
     ensures err { IfErr result (OrMemory (AreRefused (spec.request_stages
         (outside (F.file files.old) (F.faults files.old) (F.faults files.new))
         (words.query_of asks.entry)))) }
@@ -227,9 +231,10 @@ fn answer_beside<F: Files>(
     document: &[u8],
     files: &mut F,
 ) -> Result<Blob, Status>
+    requires { IsUsable (arc_value loaded.now.base) loaded.now.tables }
     ensures ok { IfOk result (parts.IsAnsweredBeside
         (outside (F.file files.old) (F.faults files.old) (F.faults files.new))
-        (words.query_of asks.entry) loaded.now.base loaded.now.tables document.now) }
+        (words.query_of asks.entry) (arc_value loaded.now.base) loaded.now.tables document.now) }
     ensures err { IfErr result (OrMemory (AreRefused (spec.variables_stages
         (outside (F.file files.old) (F.faults files.old) (F.faults files.new))
         (words.query_of asks.entry).variables))) }
@@ -251,7 +256,8 @@ fn answer_given(
     operation: Option<&str>,
     variables: Option<&Blob>,
 ) -> Result<Blob, Status>
-    ensures ok { IfOk result (IsAnswer loaded.now.base loaded.now.tables
+    requires { IsUsable (arc_value loaded.now.base) loaded.now.tables }
+    ensures ok { IfOk result (IsAnswer (arc_value loaded.now.base) loaded.now.tables
         (asked document.now (option_map (λ n. n.now) operation.entry)
         (option_map (λ v. v.now) variables.entry))) }
     ensures err { IfErr result (λ status. status ≡ status_is.Memory) }
@@ -261,7 +267,7 @@ fn answer_given(
         operation,
         variables: bytes_of(variables),
     };
-    match answer_request(alloc, &loaded.base, &loaded.tables, request) {
+    match answer_loaded(alloc, loaded, request) {
         Ok(text) => Ok(text),
         Err(_) => Err(Status::Memory),
     }

@@ -1,6 +1,7 @@
 //! The program: relational tables as a GraphQL API.
 #![tactic(auto)]
 
+mod answering;
 mod commands;
 mod laws;
 mod run;

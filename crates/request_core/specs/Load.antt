@@ -6,6 +6,7 @@ use Rattle.pg_base.specs.SchemaOf.{schema_of}
 use Rattle.pg_base.specs.SchemaFaults.{build_fault}
 use Rattle.pg_base.specs.Lists.{Each}
 use Rattle.pg_base.specs.declared.build_fault.BuildFault.{BuildFault}
+use Rattle.rel_model.specs.Tables.{AreValidTables}
 use Rattle.rel_model.specs.declared.tables.Tables.{Tables}
 use Rattle.ddl_reader.specs.declared.script.Script.{Script}
 use Rattle.ddl_reader.specs.Script.{IsScript, IsScriptFault}
@@ -24,6 +25,11 @@ pub record Loads (bytes : List ℕ) (base : BaseParts) (tables : Tables) : Type 
   pub faultless : build_fault script.catalog ≡ None
   pub based : base ≡ record { catalog = script.catalog; schema = schema_of script.catalog }
   pub rows : rows_of script.catalog script.rows ≡ Ok tables
+
+-- a base whose schema has no fault, with tables that are valid for its catalog
+pub record IsUsable (base : BaseParts) (tables : Tables) : Type 0 where
+  pub faultless : build_fault base.catalog ≡ None
+  pub valid : AreValidTables base.catalog tables
 
 -- the names of the schema have a fault
 pub record HasSchemaFault (bytes : List ℕ) (fault : BuildFault) : Type 0 where

@@ -82,3 +82,7 @@ too_many = refusal (codes "too many fields")
 -- too many rows are visited, or the text is too long
 abbrev pub too_large : List ℕ
 too_large = refusal (codes "answer too large")
+
+-- the store failed
+abbrev pub storage_fault : List ℕ
+storage_fault = refusal (codes "storage fault")

@@ -1,228 +1,67 @@
-//! The answer to a request over a loaded script: its first refusal, or the response to its query.
+//! The answer to a request: its first refusal, or the response to its query over what a store has.
 
-ghost use Rattle.std.specs.Prelude.{◌≡◌, Some, Err, IfOk, option_map};
-ghost use Rattle.serde_json.specs.Data.{Data};
-ghost use Rattle.serde_json.specs.View.{view};
-ghost use Rattle.gql_input.specs.declared.body.BodyError.TheVariants.{NoVariables};
-ghost use Rattle.gql_input.specs.Chosen.{chosen};
-ghost use Rattle.gql_input.specs.Coerced.{coerced};
-ghost use Rattle.request_core.specs.Answer as spec;
-ghost use Rattle.request_core.specs.Request as order;
+ghost use Rattle.std.specs.Prelude.{◌≡◌, ◌+◌, ◌≤◌, None, IfOk};
+ghost use Rattle.std.specs.Arc.{arc_value};
+ghost use Rattle.pg_base.specs.Catalog.{CatalogParts};
+ghost use Rattle.pg_base.specs.Limits.{most_places};
+ghost use Rattle.pg_base.specs.SchemaFaults.{build_fault};
+ghost use Rattle.rel_model.specs.declared.tables.Tables.{Tables};
+ghost use Rattle.planned_response.specs.Responses.{AreTold};
+ghost use Rattle.request_core.specs.Request.{request_of};
+ghost use Rattle.request_core.specs.Spent as spent;
 
-use crate::execution::{Over, query_answer};
-use crate::refusals::{
-    bad_body, no_mutation, no_operation, read_refusal, rule_refusal, variable_refusal,
-};
+use crate::execution::tree_answer;
+use crate::preparing::{Prepared, prepare};
 use crate::request::Request;
-use gql_input::{BodyError, VarError, chosen_operation, coerce_vars, read_variables};
-use gql_nodes::RuleError;
-use gql_reader::{
-    Definition, Document, OperationDefinition, OperationKind, ReadFault, read_document,
-};
-use gql_rules::check_document;
-use pg_base::{Base, Blob, Memory, Text};
-use rel_model::Tables;
-use serde_json::Value as Json;
-use std::alloc::{AllocError, Global};
-
-/// From the variables on.
-fn with_variables(
-    alloc: Global,
-    over: Over<'_>,
-    document: &Document,
-    place: usize,
-    operation: &OperationDefinition,
-    given: &Json,
-) -> Result<Blob, Memory>
-    ensures { IfOk result (λ text. order.AfterVariables (λ refused. text ≡ refused)
-        (spec.Executes over.entry.base.now over.entry.tables.now text document.now place)
-        (coerced over.entry.base.now.schema operation.now (view given.now))) }
-{
-    match coerce_vars(alloc, over.base.schema(), operation, given) {
-        Ok(vars) => query_answer(alloc, over, document, place, &vars),
-        Err(VarError::Fault(fault)) => variable_refusal(alloc, &fault),
-        Err(VarError::Memory) => Err(AllocError),
-    }
-}
-
-/// From the kind of the operation on.
-fn with_kind(
-    alloc: Global,
-    over: Over<'_>,
-    document: &Document,
-    place: usize,
-    operation: &OperationDefinition,
-    given: &Json,
-) -> Result<Blob, Memory>
-    ensures { IfOk result (λ text. order.WithKind (λ refused. text ≡ refused)
-        (spec.Executes over.entry.base.now over.entry.tables.now text document.now place)
-        (coerced over.entry.base.now.schema operation.now (view given.now))
-        operation.now.kind) }
-{
-    match operation.kind {
-        OperationKind::Query => with_variables(alloc, over, document, place, operation, given),
-        OperationKind::Mutation => no_mutation(alloc),
-        OperationKind::Subscription => {
-            with_variables(alloc, over, document, place, operation, given)
-        }
-    }
-}
-
-/// From the operation on, which is to stand at the place.
-fn with_operation(
-    alloc: Global,
-    over: Over<'_>,
-    document: &Document,
-    place: usize,
-    given: &Json,
-) -> Result<Blob, Memory>
-    ensures { IfOk result (λ text. order.AfterChoice over.entry.base.now.schema (view given.now)
-        document.now (λ refused. text ≡ refused)
-        (spec.Executes over.entry.base.now over.entry.tables.now text document.now)
-        (Some place)) }
-{
-    match document.definitions.get(place) {
-        Some(Definition::Operation(operation)) => {
-            with_kind(alloc, over, document, place, operation, given)
-        }
-        Some(Definition::Fragment(_)) => no_operation(alloc),
-        Some(Definition::Foreign(_)) => no_operation(alloc),
-        None => no_operation(alloc),
-    }
-}
-
-/// From the choice of the operation on.
-fn with_choice(
-    alloc: Global,
-    over: Over<'_>,
-    document: &Document,
-    place: Option<usize>,
-    given: &Json,
-) -> Result<Blob, Memory>
-    ensures { IfOk result (λ text. order.AfterChoice over.entry.base.now.schema (view given.now)
-        document.now (λ refused. text ≡ refused)
-        (spec.Executes over.entry.base.now over.entry.tables.now text document.now) place) }
-{
-    match place {
-        Some(place) => with_operation(alloc, over, document, place, given),
-        None => no_operation(alloc),
-    }
-}
-
-/// The name of the operation, as a text.
-fn name_of(alloc: Global, operation: Option<&str>) -> Result<Option<Text>, Memory>
-    ensures { IfOk result (λ name. name ≡ option_map (λ n. n.now) operation.entry) }
-{
-    match operation {
-        Some(name) => {
-            let name = Text::of(alloc, name)?;
-            Ok(Some(name))
-        }
-        None => Ok(None),
-    }
-}
-
-/// The place of the operation that the request means.
-fn choice(
-    alloc: Global,
-    document: &Document,
-    operation: Option<&str>,
-) -> Result<Option<usize>, Memory>
-    ensures { IfOk result (λ place. place
-        ≡ chosen document.now (option_map (λ n. n.now) operation.entry)) }
-{
-    let name = name_of(alloc, operation)?;
-    Ok(chosen_operation(document, name.as_ref()))
-}
-
-/// From a valid document on.
-fn with_valid(
-    alloc: Global,
-    over: Over<'_>,
-    request: Request<'_>,
-    document: &Document,
-    given: &Json,
-) -> Result<Blob, Memory>
-    ensures { IfOk result (λ text. order.AfterChoice over.entry.base.now.schema (view given.now)
-        document.now (λ refused. text ≡ refused)
-        (spec.Executes over.entry.base.now over.entry.tables.now text document.now)
-        (chosen document.now (order.request_of request.entry).operation)) }
-{
-    let place = choice(alloc, document, request.operation)?;
-    with_choice(alloc, over, document, place, given)
-}
-
-/// From the rules on.
-fn with_document(
-    alloc: Global,
-    over: Over<'_>,
-    request: Request<'_>,
-    document: &Document,
-    given: &Json,
-) -> Result<Blob, Memory>
-    ensures { IfOk result (λ text. order.AfterReading over.entry.base.now.schema
-        (order.request_of request.entry).operation (view given.now) (λ refused. text ≡ refused)
-        (spec.Executes over.entry.base.now over.entry.tables.now text document.now)
-        document.now) }
-{
-    match check_document(alloc, over.base.schema(), document) {
-        Ok(()) => with_valid(alloc, over, request, document, given),
-        Err(RuleError::Fault(fault)) => rule_refusal(alloc, fault),
-        Err(RuleError::Memory) => Err(AllocError),
-    }
-}
-
-/// From the document's bytes on.
-fn with_given(
-    alloc: Global,
-    over: Over<'_>,
-    request: Request<'_>,
-    given: &Json,
-) -> Result<Blob, Memory>
-    ensures { IfOk result (λ text. order.AfterBody over.entry.base.now.schema
-        (order.request_of request.entry) (λ refused. text ≡ refused)
-        (spec.Executes over.entry.base.now over.entry.tables.now text)
-        (view given.now)) }
-{
-    match read_document(alloc, request.document) {
-        Ok(document) => with_document(alloc, over, request, &document, given),
-        Err(ReadFault::At { which, pos }) => read_refusal(alloc, which, pos),
-        Err(ReadFault::Memory) => Err(AllocError),
-    }
-}
-
-/// What is given for the variables, where the bytes are some.
-fn read_given(alloc: Global, variables: Option<&[u8]>) -> Result<Json, BodyError>
-    ensures found { IfOk result (λ given.
-        order.AreGiven (option_map (λ b. b.now) variables.entry) (view given)) }
-    ensures refused { result ≡ Err NoVariables
-        → (d : Data) → ¬ (order.AreGiven (option_map (λ b. b.now) variables.entry) d) }
-{
-    match variables {
-        Some(bytes) => read_variables(alloc, bytes),
-        None => Ok(Json::Null),
-    }
-}
+use pg_base::{Base, Blob, Memory};
+use plan_steps::Steps;
+use std::alloc::Global;
+use std::sync::Arc;
+use std::sync::ledger::Ledger;
+use stmt_tree::Rows;
 
 /// The response to a request: its first refusal, in the order of its variables' bytes, its document's bytes, the rules,
-/// the operation, the variables' values and the places of its tree, or else the text of its execution over the tables,
-/// or that this is too large.
+/// the operation, the variables' values and the places of its tree, or else the text of its execution over what a store
+/// has at a moment, or that this is too large, or that the store failed.
 ///
 /// # Errors
 /// Out of memory.
-pub fn answer_request(
+pub fn answer_request<R: Rows, L: Ledger>(
     alloc: Global,
-    base: &Base,
-    tables: &Tables,
+    base: &Arc<Base>,
     request: Request<'_>,
+    at: &R::At,
+    rows: &mut R,
+    plans: &mut Steps<L>,
 ) -> Result<Blob, Memory>
-    ensures { IfOk result
-        (spec.IsAnswer base.now tables.now (order.request_of request.entry)) }
+    requires faultless { build_fault (arc_value base.now).catalog ≡ None }
+    requires served { R.serves rows.old at.now (arc_value base.now).catalog }
+    ensures serves { (a : R.At) (c : CatalogParts)
+        → R.serves rows.old a c → R.serves rows.new a c }
+    ensures serves_no_more { (a : R.At) (c : CatalogParts)
+        → R.serves rows.new a c → R.serves rows.old a c }
+    ensures told { (a : R.At) → R.tables_of rows.new a ≡ R.tables_of rows.old a }
+
+    // A refusal sends and plans nothing. A query makes one plan, and sends no more statements than
+    // its tree has row fields; over told tables its answer is the text of execution, or that this
+    // is too large, or that the store failed, and no more rows are got than are visited.
+    ensures answer { IfOk result (spent.AnswersOver (arc_value base.now)
+        (R.tables_of rows.old at.now)
+        (spent.counts (R.sent rows.old) (R.got rows.old) (R.faults rows.old) plans.old)
+        (spent.counts (R.sent rows.new) (R.got rows.new) (R.faults rows.new) plans.new)
+        (request_of request.entry)) }
+
+    // Also where memory runs out:
+    ensures sent { R.sent rows.new ≤ R.sent rows.old + most_places }
+    ensures got { (tables : Tables)
+        → AreTold (arc_value base.now).catalog (R.tables_of rows.old at.now) tables
+        → spent.GetsAtMost (R.got rows.old) (R.got rows.new) }
+    ensures faults { R.faults rows.old ≤ R.faults rows.new }
+    ensures planned { spent.PlansAtMostOne plans.old plans.new }
 {
-    let over = Over { base, tables };
-    match read_given(alloc, request.variables) {
-        Ok(given) => with_given(alloc, over, request, &given),
-        Err(BodyError::NoVariables) => bad_body(alloc),
-        Err(BodyError::Memory) => Err(AllocError),
+    let prepared = prepare(alloc, base, request)?;
+    match prepared {
+        Prepared::Refused(text) => Ok(text),
+        Prepared::Accepted(tree, vars) => tree_answer(alloc, base, tree, &vars, at, rows, plans),
     }
 }

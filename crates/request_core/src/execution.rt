@@ -1,68 +1,56 @@
 //! The response to a query that isn't refused.
 
-ghost use Rattle.std.specs.Prelude.{◌≡◌, ◌≤◌, IfOk, length};
+ghost use Rattle.std.specs.Prelude.{◌≡◌, ◌+◌, ◌≤◌, IfOk};
+ghost use Rattle.std.specs.Arc.{arc_value};
+ghost use Rattle.pg_base.specs.Catalog.{CatalogParts};
 ghost use Rattle.pg_base.specs.Limits.{most_places};
-ghost use Rattle.gql_collect.specs.Trees.{tree_of};
-ghost use Rattle.response_text.specs.Responses.{events_response};
-ghost use Rattle.request_core.specs.Answer as spec;
+ghost use Rattle.rel_model.specs.declared.tables.Tables.{Tables};
+ghost use Rattle.planned_response.specs.Responses.{AreTold};
+ghost use Rattle.request_core.specs.Spent as spent;
 
-use crate::refusals::{too_large, too_many};
-use gql_collect::{CollectFault, collect};
-use gql_reader::Document;
-use list_execution::{ExecutionFault, execute};
+use crate::refusals::{storage_fault, too_large};
 use pg_base::{Base, Blob, Memory, Vars};
-use place_tree::{Event, Tree};
-use rel_model::Tables;
-use response_text::{ResponseFault, response_of};
+use place_tree::Tree;
+use plan_steps::Steps;
+use planned_response::{RespondFault, respond};
 use std::alloc::{AllocError, Global};
+use std::sync::Arc;
+use std::sync::ledger::Ledger;
+use stmt_tree::Rows;
 
-/// What a request is answered over.
-#[derive(Clone, Copy)]
-pub(crate) struct Over<'a> {
-    pub(crate) base: &'a Base,
-    pub(crate) tables: &'a Tables,
-}
-
-/// The text of events, where it isn't too long.
-fn text_of(alloc: Global, events: &[Event]) -> Result<Blob, Memory>
-    ensures { IfOk result (λ text. text ≡ spec.sized (events_response events.now)) }
-{
-    match response_of(alloc, events) {
-        Ok(text) => Ok(text),
-        Err(ResponseFault::TooLarge) => too_large(alloc),
-        Err(ResponseFault::Memory) => Err(AllocError),
-    }
-}
-
-/// The response to what a tree of places asks for.
-#[tactic(auto, using(response_text::proofs::Whole::response_same))]
-fn tree_answer(alloc: Global, over: Over<'_>, vars: &Vars, tree: &Tree) -> Result<Blob, Memory>
-    requires few { length tree.now.places ≤ most_places }
-    ensures { IfOk result (λ text. text ≡ spec.executed_answer
-        over.entry.base.now over.entry.tables.now vars.now tree.now) }
-{
-    match execute(alloc, over.base, over.tables, vars, tree) {
-        Ok(events) => text_of(alloc, events.as_slice()),
-        Err(ExecutionFault::TooManyRows) => too_large(alloc),
-        Err(ExecutionFault::Memory) => Err(AllocError),
-    }
-}
-
-/// The response to the operation at a place of the document.
-pub(crate) fn query_answer(
+/// The response to what a tree of places asks for: the text of its execution, or that this is too large, or that the store
+/// failed.
+pub(crate) fn tree_answer<R: Rows, L: Ledger>(
     alloc: Global,
-    over: Over<'_>,
-    document: &Document,
-    place: usize,
+    base: &Arc<Base>,
+    tree: Tree,
     vars: &Vars,
+    at: &R::At,
+    rows: &mut R,
+    plans: &mut Steps<L>,
 ) -> Result<Blob, Memory>
-    ensures { IfOk result (λ text. text ≡ spec.tree_answer
-        over.entry.base.now over.entry.tables.now vars.now
-        (tree_of over.entry.base.now.schema document.now place vars.now)) }
+    requires may { spent.MayRespond (arc_value base.now) tree vars.now }
+    requires served { R.serves rows.old at.now (arc_value base.now).catalog }
+    ensures serves { (a : R.At) (c : CatalogParts)
+        → R.serves rows.old a c → R.serves rows.new a c }
+    ensures serves_no_more { (a : R.At) (c : CatalogParts)
+        → R.serves rows.new a c → R.serves rows.old a c }
+    ensures told { (a : R.At) → R.tables_of rows.new a ≡ R.tables_of rows.old a }
+    ensures run { IfOk result (spent.IsRun (arc_value base.now) (R.tables_of rows.old at.now)
+        vars.now tree
+        (spent.counts (R.sent rows.old) (R.got rows.old) (R.faults rows.old) plans.old)
+        (spent.counts (R.sent rows.new) (R.got rows.new) (R.faults rows.new) plans.new)) }
+    ensures sent { R.sent rows.new ≤ R.sent rows.old + most_places }
+    ensures got { (tables : Tables)
+        → AreTold (arc_value base.now).catalog (R.tables_of rows.old at.now) tables
+        → spent.GetsAtMost (R.got rows.old) (R.got rows.new) }
+    ensures faults { R.faults rows.old ≤ R.faults rows.new }
+    ensures planned { spent.PlansAtMostOne plans.old plans.new }
 {
-    match collect(alloc, over.base.schema(), document, place, vars) {
-        Ok(tree) => tree_answer(alloc, over, vars, &tree),
-        Err(CollectFault::TooMany) => too_many(alloc),
-        Err(CollectFault::Memory) => Err(AllocError),
+    match respond(alloc, base, tree, vars, at, rows, plans) {
+        Ok(text) => Ok(text),
+        Err(RespondFault::Store) => storage_fault(alloc),
+        Err(RespondFault::TooLarge) => too_large(alloc),
+        Err(RespondFault::Memory) => Err(AllocError),
     }
 }

@@ -5,6 +5,7 @@ mod answer;
 mod execution;
 mod fault_lines;
 mod loading;
+mod preparing;
 mod refusals;
 mod request;
 mod rule_messages;

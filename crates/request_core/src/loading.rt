@@ -1,6 +1,7 @@
 //! What a script gives.
 
 ghost use Rattle.std.specs.Prelude.{◌≡◌, IfOk, IfErr};
+ghost use Rattle.std.specs.Arc.{arc_value};
 ghost use Rattle.pg_base.specs.SchemaFaults.{build_fault};
 ghost use Rattle.pg_base.specs.SchemaOf as built;
 ghost use Rattle.rel_model.specs.Tables.{AreValidTables};
@@ -14,11 +15,12 @@ use rel_model::Tables;
 use rows_reader::{LoadError as RowsError, RowsFault};
 use schema_build::build;
 use std::alloc::Global;
+use std::sync::Arc;
 
 /// What a script gives: its catalog with the schema, and the opening rows.
 #[derive(Drop)]
 pub struct Loaded {
-    pub base: Base,
+    pub base: Arc<Base>,
     pub tables: Tables,
 }
 
@@ -84,14 +86,20 @@ fn tables_of(alloc: Global, script: &Script) -> Result<Tables, LoadError>
 /// # Errors
 /// The first fault: that of the text, else that of the names of the schema, else that of the rows; or out of memory.
 pub fn load(alloc: Global, bytes: &[u8]) -> Result<Loaded, LoadError>
-    ensures ok { IfOk result (λ loaded. spec.Loads bytes.now loaded.base loaded.tables) }
-    ensures valid { IfOk result (λ loaded. AreValidTables loaded.base.catalog loaded.tables) }
+    ensures ok { IfOk result (λ loaded.
+        spec.Loads bytes.now (arc_value loaded.base) loaded.tables) }
+    ensures valid { IfOk result (λ loaded.
+        AreValidTables (arc_value loaded.base).catalog loaded.tables) }
+    ensures faultless { IfOk result (λ loaded.
+        build_fault (arc_value loaded.base).catalog ≡ None) }
     ensures err { IfErr result (spec.IsLoadErrorOf bytes.now) }
 {
     let script = script_of(alloc, bytes)?;
     let schema = schema_of(alloc, &script)?;
     let tables = tables_of(alloc, &script)?;
     let Script { catalog, .. } = script;
-    let base = Base::of(catalog, schema);
-    Ok(Loaded { base, tables })
+    match Arc::new(alloc, Base::of(catalog, schema)) {
+        Ok(base) => Ok(Loaded { base, tables }),
+        Err(_) => Err(LoadError::Memory),
+    }
 }

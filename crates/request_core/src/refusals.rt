@@ -170,3 +170,10 @@ pub(crate) fn too_large(alloc: Global) -> Result<Blob, Memory>
 {
     refusal(alloc, "answer too large")
 }
+
+/// The response to a request over a store that failed.
+pub(crate) fn storage_fault(alloc: Global) -> Result<Blob, Memory>
+    ensures { IfOk result (λ text. text ≡ spec.storage_fault) }
+{
+    refusal(alloc, "storage fault")
+}

@@ -1,8 +1,18 @@
 //! Rows of tables, which are documents with their responses, asked over a script.
 
-use request_core::{Loaded, Request, answer_request, load};
+ghost use Rattle.std.specs.Prelude.{IfOk};
+ghost use Rattle.std.specs.Arc.{arc_value};
+ghost use Rattle.request_core.specs.Load.{IsUsable};
+
+use crate::opening::{answer_over, opened};
+use crate::slow::by_lists;
+use pg_base::{Blob, Memory};
+use request_core::{Loaded, Request, load};
 use std::alloc::Global;
+use std::marker::Brand;
+use std::sync::ledger::Blank;
 use std::test::Fail;
+use stmt_run::MemRows;
 
 /// What stands in a document around the part that a row tells.
 #[derive(Clone, Copy)]
@@ -73,7 +83,9 @@ pub(crate) fn expanded(alloc: Global, text: &str) -> Result<String, Fail> {
 }
 
 /// What a script gives.
-fn loaded(alloc: Global, script: &str) -> Result<Loaded, Fail> {
+pub(crate) fn loaded(alloc: Global, script: &str) -> Result<Loaded, Fail>
+    ensures { IfOk result (λ loaded. IsUsable (arc_value loaded.base) loaded.tables) }
+{
     let script = expanded(alloc, script)?;
     match load(alloc, script.as_bytes()) {
         Ok(loaded) => Ok(loaded),
@@ -81,26 +93,49 @@ fn loaded(alloc: Global, script: &str) -> Result<Loaded, Fail> {
     }
 }
 
-/// The text of the response to what a row asks.
-fn answer_of(alloc: Global, over: &Loaded, around: Around, asked: &str) -> Result<String, Fail> {
+/// The response to a request over a store in memory.
+fn answered(alloc: Global, over: &Loaded, request: Request<'_>) -> Result<Blob, Memory>
+    requires { IsUsable (arc_value over.now.base) over.now.tables }
+{
+    let at = opened(alloc, over)?;
+    let mut rows = MemRows::new(alloc);
+    answer_over::<MemRows, Brand>(alloc, over, request, &at, &mut rows, Blank::new(1))
+}
+
+/// The text of the response to what a row asks; where it has data, it is also that of plain recursion, or a mark of what
+/// this gives.
+fn answer_of(alloc: Global, over: &Loaded, around: Around, asked: &str) -> Result<String, Fail>
+    requires { IsUsable (arc_value over.now.base) over.now.tables }
+{
     let (part, variables, operation) = parts_of(asked);
     let (opening, closing) = (around.opening, around.closing);
     let document = format!(in alloc; "{opening}{part}{closing}")?;
     let document = expanded(alloc, document.as_str())?;
-    let variables = expanded(alloc, variables)?;
-    let operation = String::from_str(alloc, operation)?;
+    let variables_text = expanded(alloc, variables)?;
+    let operation_text = String::from_str(alloc, operation)?;
+    let operation = given(operation_text.as_str());
+    let variables = given(variables_text.as_str()).map(str::as_bytes);
     let request = Request {
         document: document.as_bytes(),
-        operation: given(operation.as_str()),
-        variables: given(variables.as_str()).map(str::as_bytes),
+        operation,
+        variables,
     };
-    let answer = answer_request(alloc, &over.base, &over.tables, request)?;
+    let answer = answered(alloc, over, request)?;
     let text = str::from_utf8(answer.bytes()).map_err(|_| "no text")?;
-    Ok(String::from_str(alloc, text)?)
+    if !text.contains("\"data\":") {
+        return Ok(String::from_str(alloc, text)?);
+    }
+    let slow = by_lists(alloc, &over.base, &over.tables, request)?;
+    if slow.as_str() == text {
+        return Ok(slow);
+    }
+    Ok(format!(in alloc; "{text} and by lists {slow}")?)
 }
 
 /// Nothing where the response to a row is the one that it tells, else the row and what came.
-fn difference(alloc: Global, over: &Loaded, around: Around, row: &str) -> Result<String, Fail> {
+fn difference(alloc: Global, over: &Loaded, around: Around, row: &str) -> Result<String, Fail>
+    requires { IsUsable (arc_value over.now.base) over.now.tables }
+{
     let (asked, wanted) = row.split_once(" => ").ok_or("no arrow")?;
     let wanted = expanded(alloc, wanted)?;
     let answer = answer_of(alloc, over, around, asked)?;

@@ -14,11 +14,17 @@ mod errors;
 #[cfg(test)]
 mod limits;
 #[cfg(test)]
+mod opening;
+#[cfg(test)]
 mod relations;
 #[cfg(test)]
 mod rules;
 #[cfg(test)]
 mod sizes;
+#[cfg(test)]
+mod slow;
+#[cfg(test)]
+mod stores;
 #[cfg(test)]
 mod windows;
 #[cfg(test)]

@@ -1,0 +1,2 @@
+pub mod FewSent
+pub mod TreesOver

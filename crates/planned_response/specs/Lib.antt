@@ -1,0 +1,4 @@
+pub mod RowFields
+pub mod Plans
+pub mod Laws
+pub mod Responses

@@ -1,0 +1,12 @@
+//! The response to a query: its tree is planned, the plan is run over a store, and its values are printed.
+#![tactic(auto)]
+
+mod fault;
+pub mod laws;
+mod planning;
+mod responding;
+mod running;
+
+pub use fault::RespondFault;
+pub use responding::respond;
+pub use running::respond_with;
