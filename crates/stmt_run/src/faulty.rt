@@ -118,4 +118,8 @@ impl Rows for FaultyRows {
         }
         self.rows.run(at, stmt, keys, room)
     }
+
+    fn sent(&self) -> u64 {
+        self.rows.sent()
+    }
 }

@@ -46,13 +46,6 @@ impl MemRows {
         self.sent = self.sent.saturating_add(1);
     }
 
-    /// The number of statements that were sent.
-    pub fn sent(&self) -> u64
-        ensures { result ≡ self.now.sent }
-    {
-        self.sent
-    }
-
     /// The number of row trees that they got.
     pub fn got(&self) -> u64
         ensures { result ≡ self.now.got }
@@ -88,5 +81,9 @@ impl Rows for MemRows {
         Ok(Batch {
             found: Items::from_vec(found.into_vec()),
         })
+    }
+
+    fn sent(&self) -> u64 {
+        self.sent
     }
 }

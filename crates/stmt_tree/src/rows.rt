@@ -53,4 +53,8 @@ pub trait Rows {
         ensures got { GotWithin (got self.old) (got self.new) result }
         ensures faults { faults self.old ≤ faults self.new }
         ensures cause { IsStoreFault result → Rose (faults self.old) (faults self.new) };
+
+    /// How many statements were sent.
+    fn sent(&self) -> u64
+        ensures { result ≡ sent self.now };
 }
