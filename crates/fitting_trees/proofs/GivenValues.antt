@@ -15,7 +15,7 @@ use Rattle.pg_base.specs.declared.value.Value.TheVariants as value
 use Rattle.gql_types.specs.Types.{Ty, named, list_of, innermost, is_not_null, ty_of}
 use Rattle.gql_input.specs.Coercions.{Coercion, Given, wrong_kind, null_given, map_ok, and_more, in_lists, fields_at}
 use Rattle.gql_input.specs.Given.{one, many, member, leaf_at, object_at, given_at, items_at, given_fields}
-use Rattle.gql_input.specs.Inputs.{Reads, int, big_int, text, boolean, cases, fields, nothing, reads_at}
+use Rattle.gql_input.specs.Inputs.{Reads, int, big_int, text, boolean, cases, fields, nothing, reads_at, has_fields}
 use Rattle.gql_input.specs.Leaves.{Leaf, as_value, boolean_at, number_at, json_string_at}
 use Rattle.place_tree.specs.Arguments.{item_type}
 use Rattle.plan_steps.specs.Fitting.{IsOf}
@@ -80,7 +80,7 @@ module _ (schema : SchemaParts) (distinct : HasDistinctInputs schema) where
       let apart = distinct (innermost t) o.args input in
       let made = all_made member (λ (x : Member). x.name) (MemberIsOf schema o.args) o.args (λ n x. refl) given (all_right o.args given h) o.args o.members (all_known o.args apart) (known_fields member o.args given o.members o.made).1 in
       subst (IsOf schema r) m.is (wrapped_is_of schema t r m.from s (λ q flat is.
-      subst (IsOf schema q) o.is (object_is_of schema q o.members flat
+      subst (IsOf schema q) o.is (object_is_of schema q o.members flat (ap (λ n. has_fields (reads_at schema n)) (sym is) ∙ ap has_fields o.of_is)
       (subst (λ (l : List ArgDef). Each (MemberIsOf schema l) o.members) (sym (ap (λ n. inputs_of (kind_at schema n)) (sym is) ∙ ap inputs_of input)) made.each) (made.distinct apart))))
 
   more_items : (t : Ty) (r : TypeRef) (vs : List Value) (c : Coercion Value) (rest : Coercion (List Value)) → ((v : Value) → c ≡ Ok v → IsOf schema r v) → ((l : List Value) → rest ≡ Ok l → Each (IsOf schema r) l)

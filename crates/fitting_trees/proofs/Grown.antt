@@ -25,7 +25,7 @@ use Rattle.gql_collect.specs.Collected.{Request, Met, collected}
 use Rattle.gql_collect.specs.Growing.{response_key, keys_of, fields_with, merged, number_of, place_of, with_place, below_place, by_number, with_group, with_keys, with_asked, with_set}
 use Rattle.gql_collect.specs.Trees.{request}
 use Rattle.plan_steps.specs.Fitting.{FitsPlace}
-use Rattle.step_plan.specs.Planned.{HasFieldsOnce}
+use Rattle.step_plan.specs.Planned.{HasFieldsOnce, HasOwnArgs}
 use Rattle.schema_laws.proofs.Eaches.{Each-append}
 use Rattle.fitting_trees.proofs.Named.{same_bytes}
 use Rattle.fitting_trees.proofs.Uses.{IsUsed}
@@ -53,7 +53,7 @@ with_key schema document place Base ty key (f ∷ fields) h = by (bytes_eq key (
     by false e later = later
 
 abbrev pub IsGood : BaseParts → Vars → Place → Type 0
-IsGood base vars p = FitsPlace base vars p × IfSome (written p.args 0) HasFieldsOnce
+IsGood base vars p = FitsPlace base vars p × IfSome (written p.args 0) HasFieldsOnce × HasOwnArgs base.schema p
 
 abbrev pub AllGood : BaseParts → Vars → Tree → Type 0
 AllGood base vars tree = Each (IsGood base vars) tree.places

@@ -11,6 +11,7 @@ mod Definitions
 mod Collecting
 mod Merging
 mod Uses
+mod OwnArgs
 mod PlaceArgs
 mod Placed
 mod Grown

@@ -20,7 +20,7 @@ use Rattle.gql_input.specs.declared.argument.ArgValue.{ArgValue}
 use Rattle.gql_input.specs.declared.argument.ArgValue.TheVariants as argument
 use Rattle.gql_input.specs.Arguments.{value_with, and_given, no_vars, constant}
 use Rattle.gql_input.specs.Coercions.{Coercion, Given, wrong_kind, null_given, map_ok, and_more, in_lists, fields_at}
-use Rattle.gql_input.specs.Inputs.{Reads, int, big_int, text, boolean, cases, fields, nothing, reads_at}
+use Rattle.gql_input.specs.Inputs.{Reads, int, big_int, text, boolean, cases, fields, nothing, reads_at, has_fields}
 use Rattle.gql_input.specs.Leaves.{Leaf, number, truth, words, one_of, as_value, as_argument, boolean_at, spelled_at, string_at, case_at}
 use Rattle.gql_input.specs.Listed.{each_value, each_member}
 use Rattle.gql_input.specs.Literals.{one, many, member, leaf_at, object_at, literal_at, literals_at, literal_fields}
@@ -139,11 +139,11 @@ module _ (schema : SchemaParts) (vars : Vars) where
   members_become inputs [] h = record { each = tt; apart = λ n d. tt; distinct = λ d. tt }
   members_become inputs (m ∷ ms) h = one_given inputs m ms (each_member vars ms) (value_with vars m.value) h.0 (members_become inputs ms h.1)
 
-  object_becomes : (r : TypeRef) (ms : List ArgMember) → r.list ≡ false → Each (MemberBecomes (inputs_of (kind_at schema r.name))) ms → AreDistinct (map (λ m. m.name) ms) → Becomes r (argument.Object ms)
-  object_becomes r ms flat h d =
+  object_becomes : (r : TypeRef) (ms : List ArgMember) → r.list ≡ false → has_fields (reads_at schema r.name) ≡ true → Each (MemberBecomes (inputs_of (kind_at schema r.name))) ms → AreDistinct (map (λ m. m.name) ms) → Becomes r (argument.Object ms)
+  object_becomes r ms flat reads h d =
       let given = members_become (inputs_of (kind_at schema r.name)) ms h in
       subst (λ o. IfSome o (IsOf schema r)) (object_is vars (argument.Object ms) ms ms (each_member vars ms) refl refl refl)
-      (object_is_of schema r (each_member vars ms) flat given.each (given.distinct d))
+      (object_is_of schema r (each_member vars ms) flat reads given.each (given.distinct d))
 
   wrapped_becomes : (t : Ty) (r : TypeRef) (a : ArgValue) → Suits t r → ((q : TypeRef) → q.list ≡ false → innermost t ≡ q.name → Becomes q a) → Becomes r (in_lists one t a)
   wrapped_becomes (named n b) r a s h = h r s.0 s.1
@@ -206,7 +206,7 @@ module _ (schema : SchemaParts) (vars : Vars) where
         let right = subst (λ (l : List ArgDef). Each (IsRightField l) given) inputs h in
         let made = all_made member (λ (x : ArgMember). x.name) (MemberBecomes o.args) o.args (λ n x. refl) given (fields_given o.args given right) o.args o.members (all_known o.args apart) (known_fields member o.args given o.members o.made).1 in
         subst (Becomes r) m.is (wrapped_becomes t r m.from s (λ q flat is.
-        subst (Becomes q) o.is (object_becomes q o.members flat
+        subst (Becomes q) o.is (object_becomes q o.members flat (ap (λ n. has_fields (reads_at schema n)) (sym is) ∙ ap has_fields o.of_is)
         (subst (λ (l : List ArgDef). Each (MemberBecomes l) o.members) (sym (ap (λ n. inputs_of (kind_at schema n)) (sym is) ∙ ap inputs_of input)) made.each) (made.distinct apart))))
 
     mutual

@@ -34,8 +34,9 @@ use Rattle.place_tree.specs.declared.place.Place.{Place}
 use Rattle.gql_collect.specs.Asking.{argument_in}
 use Rattle.gql_collect.specs.Growing.{place_from, place_in, fields_at, number_of, args_in, args_from, place_of}
 use Rattle.plan_steps.specs.Fitting.{IsOf, FitsArg, FitsPlace}
-use Rattle.step_plan.specs.Planned.{HasFieldsOnce}
+use Rattle.step_plan.specs.Planned.{HasFieldsOnce, HasOwnArgs}
 use Rattle.schema_laws.proofs.Eaches.{Each-get}
+use Rattle.fitting_trees.proofs.OwnArgs.{args_below}
 use Rattle.fitting_trees.proofs.Named.{some_is, no_some, not_both, arg_names, IsKnown, all_known}
 use Rattle.fitting_trees.proofs.Suited.{suits_itself, false_true}
 use Rattle.fitting_trees.proofs.GivenValues.{HasDistinctInputs}
@@ -145,10 +146,11 @@ module _ (base : BaseParts) (named : IsNamedSchema base.schema) (document : Docu
         by arg (Some a) at = arg_fits d arg a is at p args
 
     -- what is asked of each place
-    pub placed : FitsPlace base vars (place_of base.schema parent ty key f n) × IfSome (written (place_of base.schema parent ty key f n).args 0) HasFieldsOnce
+    pub placed : FitsPlace base vars (place_of base.schema parent ty key f n) × IfSome (written (place_of base.schema parent ty key f n).args 0) HasFieldsOnce × HasOwnArgs base.schema (place_of base.schema parent ty key f n)
     placed = (
       place_fits (place_of base.schema parent ty key f n) (field_at base.schema ty n) refl refl,
       args_once base.schema named.inputs f.arguments 0 0 (args_in (field_at base.schema ty n)),
+      args_below base.schema f.arguments 0 (length (args_in (field_at base.schema ty n))) (args_in (field_at base.schema ty n)) (omega arith),
     )
 
     -- the selections below a field whose type is no object type

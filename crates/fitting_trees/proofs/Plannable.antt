@@ -20,7 +20,7 @@ use Rattle.place_tree.specs.Arguments.{written}
 use Rattle.plan_steps.specs.Fitting.{FitsPlace}
 use Rattle.plan_steps.specs.Sound.{IsRootOf}
 use Rattle.plan_steps.specs.declared.plan.Root.TheVariants as root
-use Rattle.step_plan.specs.Planned.{HasFieldsOnce, IsPlannable}
+use Rattle.step_plan.specs.Planned.{HasFieldsOnce, HasOwnArgs, IsPlannable}
 use Rattle.schema_laws.proofs.Eaches.{Each-weaker}
 use Rattle.fitting_trees.specs.ValidTrees.{IsServed}
 use Rattle.fitting_trees.proofs.Placed.{IsNamedSchema}
@@ -39,6 +39,7 @@ module _ (base : BaseParts) (document : Document) (place : ℕ) (o : OperationDe
         root = root_of base.schema o.kind;
         of_root = is_root base.schema o.kind;
         formed = formed;
+        own = Each-weaker (IsGood base vars) (HasOwnArgs base.schema) (tree_of base.schema document place vars).places (λ p h. h.2) good;
         once = Each-weaker (IsGood base vars) (λ (p : Place). IfSome (written p.args 0) HasFieldsOnce) (tree_of base.schema document place vars).places (λ p h. h.1) good;
         fit = Each-weaker (IsGood base vars) (FitsPlace base vars) (tree_of base.schema document place vars).places (λ p h. h.0) good;
       }

@@ -15,7 +15,7 @@ use Rattle.pg_base.specs.declared.value.Value.TheBlock.{hidden-the_row-Value-0, 
 use Rattle.gql_types.specs.Types.{Ty, named, list_of, innermost, is_not_null, ty_of}
 use Rattle.gql_input.specs.Coercions.{in_lists}
 use Rattle.gql_input.specs.Given.{one}
-use Rattle.gql_input.specs.Inputs.{Reads, reads_at}
+use Rattle.gql_input.specs.Inputs.{Reads, reads_at, has_fields}
 use Rattle.gql_input.specs.Leaves.{Leaf, number, truth, words, one_of, as_value, integer_at, boolean_at, case_at}
 use Rattle.gql_scopes.specs.AllVariableUsagesAreAllowed.{are_compatible_but_null, null_fits}
 use Rattle.place_tree.specs.Arguments.{item_type, type_in}
@@ -83,11 +83,11 @@ unfolding hidden-the_row-Member-1 denote.Hole.Carrier.hidden
 members_row [] = refl
 members_row (m ∷ ms) = ap (λ l. m ∷ l) (members_row ms)
 
-pub object_is_of : (schema : SchemaParts) (r : TypeRef) (ms : List Member) → r.list ≡ false → Each (MemberIsOf schema (inputs_of (kind_at schema r.name))) ms
+pub object_is_of : (schema : SchemaParts) (r : TypeRef) (ms : List Member) → r.list ≡ false → has_fields (reads_at schema r.name) ≡ true → Each (MemberIsOf schema (inputs_of (kind_at schema r.name))) ms
     → AreDistinct (map (λ m. m.name) ms) → IsOf schema r (value.Object ms)
 unfolding hidden-the_row-Member-1 denote.Hole.Carrier.hidden
-object_is_of schema r ms e h d =
-    (e, members_are schema (inputs_of (kind_at schema r.name)) ms h, subst (λ (l : List Member). AreDistinct (map (λ m. m.name) l)) (sym (members_row ms)) d)
+object_is_of schema r ms e reads h d =
+    (e, members_are schema (inputs_of (kind_at schema r.name)) ms h, subst (λ (l : List Member). AreDistinct (map (λ m. m.name) l)) (sym (members_row ms)) d, reads)
 
 -- what isn't a list, in as many lists as the type has
 pub wrapped_is_of : (schema : SchemaParts) (t : Ty) (r : TypeRef) (v : Value) → Suits t r → ((q : TypeRef) → q.list ≡ false → innermost t ≡ q.name → IsOf schema q v) → IsOf schema r (in_lists one t v)

@@ -14,6 +14,7 @@ pub mod Plain
 mod PlainExample
 pub mod Reached
 pub mod Running
+pub mod SameFetch
 pub mod Served
 pub mod Tests
 pub mod Totals

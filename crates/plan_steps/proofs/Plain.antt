@@ -4,16 +4,19 @@ use Rattle.std.specs.Prelude.{slice_get, is_some}
 use Rattle.pg_base.specs.Base.{BaseParts}
 use Rattle.place_tree.specs.declared.place.Place.{Place}
 use Rattle.place_tree.specs.declared.place.Tree.{Tree}
+use Rattle.pg_base.specs.declared.vars.Vars.{Vars}
 use Rattle.place_tree.specs.Fetch.{argument_error}
 use Rattle.place_tree.specs.Fields.{does_of}
 use Rattle.place_tree.specs.Needs.{is_mutation}
+use Rattle.plan_constraints.specs.Constraints.{Hold}
 use Rattle.plan_constraints.specs.declared.constraint.Constraint.{Constraint}
 use Rattle.plan_steps.specs.declared.plan.FetchStep.{FetchStep, out-FetchStep}
 use Rattle.plan_steps.specs.declared.plan.Plan.{Plan}
 use Rattle.plan_steps.specs.declared.plan.Root.{Root}
 use Rattle.plan_steps.specs.declared.plan.Root.TheVariants as root
 use Rattle.plan_steps.specs.declared.plan.Step.TheVariants as step
-use Rattle.plan_steps.specs.Fetches.{IsStart, IsFieldOf, HangsOn, IsBelowFetch, StandsWith, ShowsRows, AreFetches, IsPlain}
+use Rattle.plan_steps.specs.Fetches.{IsStart, IsFieldOf, HangsOn, IsBelowFetch, StandsWith, ShowsRows, AreFetches, bare, AreAlike, has_null_order, TellsWindows, IsPlain}
+use Rattle.plan_steps.specs.Fitting.{FitTree}
 use Rattle.plan_steps.specs.Named.{over}
 use Rattle.plan_steps.specs.Serves.{basis_above, ServesAll}
 use Rattle.plan_steps.specs.Sound.{IsRootOf}
@@ -30,6 +33,12 @@ pub record HasOwnFetches (base : BaseParts) (tree : Tree) (constraints : List Co
       → HangsOn plan.steps (basis_above serves.bases field.place.parent) (out-FetchStep f).parent × IsBelowFetch k (serves.bases i)
   pub stands : (k : ℕ) (f : FetchStep) → slice_get plan.steps k ≡ Some (step.Fetch f) → StandsWith plan.layers k (out-FetchStep f).parent
   pub given : (k : ℕ) → slice_get plan.steps k ≡ Some step.Given → over plan.layers k ≡ None
+  pub tells : TellsWindows base tree constraints plan
+  pub alike : (k l i j : ℕ) (f g : FetchStep) → (field : IsFieldOf base tree plan k i) (other : IsFieldOf base tree plan l j) → slice_get plan.steps k ≡ Some (step.Fetch f) → slice_get plan.steps l ≡ Some (step.Fetch g)
+      → AreAlike field.place other.place → bare f ≡ bare g
+  pub same_error : (vars : Vars) → FitTree base vars tree → Hold constraints vars → (k l i j : ℕ) (f g : FetchStep) → (field : IsFieldOf base tree plan k i) (other : IsFieldOf base tree plan l j)
+      → slice_get plan.steps k ≡ Some (step.Fetch f) → slice_get plan.steps l ≡ Some (step.Fetch g) → bare f ≡ bare g → has_null_order vars field.place ≡ has_null_order vars other.place
+      → is_some (argument_error base vars field.place) ≡ is_some (argument_error base vars other.place)
 
 module _ (base : BaseParts) (tree : Tree) (constraints : List Constraint) (plan : Plan) (query : IsRootOf base tree root.Query) (has : HasOwnFetches base tree constraints plan) where
   -- a query's tree has no mutation field
@@ -61,4 +70,4 @@ module _ (base : BaseParts) (tree : Tree) (constraints : List Constraint) (plan 
   }
 
   pub plain_query : IsPlain base tree constraints plan
-  plain_query = record { fetches = are_fetches; own = has.own }
+  plain_query = record { fetches = are_fetches; own = has.own; tells = has.tells; alike = has.alike; same_error = has.same_error }

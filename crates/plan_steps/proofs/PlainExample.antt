@@ -1,6 +1,6 @@
 -- A plan of `{ allTs { nodes { id } } }` is plain, whatever the constraints are.
 use Rattle.std.proofs.Common.{◌≡◌, ℕ, zero, suc, List, [], ◌∷◌, map, Option, Some, None, true, false, refl, sym, ap, ◌∙◌, subst}
-use Rattle.std.specs.Prelude.{slice_get}
+use Rattle.std.specs.Prelude.{slice_get, is_some}
 use Rattle.pg_base.specs.Base.{BaseParts}
 use Rattle.pg_base.specs.Catalog.{CatalogParts}
 use Rattle.pg_base.specs.Schema.{SchemaParts}
@@ -15,14 +15,14 @@ use Rattle.place_tree.specs.declared.fetch.Fetch.{Fetch}
 use Rattle.place_tree.specs.declared.fetch.KeyCells.TheVariants.{Given}
 use Rattle.place_tree.specs.declared.place.Place.{Place}
 use Rattle.place_tree.specs.declared.place.Tree.{Tree}
-use Rattle.place_tree.specs.Fetch.{list_fetch, fetch_of}
+use Rattle.place_tree.specs.Fetch.{list_fetch, fetch_of, argument_error}
 use Rattle.place_tree.specs.Fields.{does_of, is_row_field}
 use Rattle.place_tree.specs.Needs.{is_mutation}
 use Rattle.plan_constraints.specs.declared.constraint.Constraint.{Constraint}
 use Rattle.plan_steps.specs.declared.plan.FetchStep.{FetchStep, FetchStep-F, out-FetchStep, roll-FetchStep, out-roll-FetchStep}
 use Rattle.plan_steps.specs.declared.plan.Plan.{Plan}
 use Rattle.plan_steps.specs.declared.plan.Step.TheVariants as step
-use Rattle.plan_steps.specs.Fetches.{IsFieldOf, HangsOn, IsBelowFetch, StandsWith, ShowsRows, IsPlain}
+use Rattle.plan_steps.specs.Fetches.{IsFieldOf, HangsOn, IsBelowFetch, StandsWith, ShowsRows, bare, TellsWindows, IsPlain}
 use Rattle.plan_steps.specs.Filled.{filled_equal, filled_key, filled_window}
 use Rattle.plan_steps.specs.Serves.{Basis, OnNothing, OnRow, OnList, OnPayload, below_fetch, FetchServes, RowFieldServes, basis_above, Serves, ServesAll}
 use Rattle.plan_steps.proofs.Plain.{HasOwnFetches, plain_query}
@@ -194,6 +194,10 @@ hangs k i f field at =
     let hung : (out-FetchStep f).parent ≡ None = ap (λ o. o.parent) (parts_of k f at) in
     (subst (λ q. HangsOn plan.steps (basis_above bases q.parent) (out-FetchStep f).parent) z.2 hung, subst (λ n. IsBelowFetch k (bases n)) (sym z.0) (sym z.1))
 
+-- no fetch hangs on a row
+tells : (constraints : List Constraint) → TellsWindows base tree constraints plan
+tells constraints vars fit hold k i item f field at hung = let none = ap (λ o. o.parent) (parts_of k f at) in let z : None ≡ Some item = sym none ∙ hung in cc
+
 own_fetches : (constraints : List Constraint) → HasOwnFetches base tree constraints plan
 own_fetches constraints = record {
   serves = serves_all constraints;
@@ -203,6 +207,9 @@ own_fetches constraints = record {
   hangs = hangs;
   stands = λ k f at. subst (λ n. StandsWith plan.layers n (out-FetchStep f).parent) (sym (one_fetch k f at).0) (subst (StandsWith plan.layers 0) (sym (ap (λ o. o.parent) (parts_of k f at))) refl);
   given = λ k at. absurd (no_given k at);
+  tells = tells constraints;
+  alike = λ k l i j f g field other at is same. ap bare (sym (one_fetch k f at).1 ∙ (one_fetch l g is).1);
+  same_error = λ vars fit hold k l i j f g field other at is content orders. ap (λ q. is_some (argument_error base vars q)) (sym (row_field k i field).2 ∙ (row_field l j other).2);
 }
 
 example_is_plain : (constraints : List Constraint) → IsPlain base tree constraints plan

@@ -1,6 +1,7 @@
 -- Plans whose fetches are those of the row fields of a tree: one for each field (a plain plan), or one for several that
 -- ask the same (a merged plan).
-use Rattle.std.specs.Prelude.{◌≡◌, ◌<◌, ℕ, Bool, true, false, ◌==◌, List, [], Option, Some, None, slice_get, is_some, IsTrue, ⊤}
+use Rattle.std.specs.Prelude.{◌≡◌, ◌<◌, ◌⊎◌, ℕ, Bool, true, false, ◌==◌, ◌&&◌, ◌||◌, List, [], Option, Some, None, slice_get, is_some, IsTrue, ⊤}
+use Rattle.std.specs.List.{list_any}
 use Rattle.pg_base.specs.Base.{BaseParts}
 use Rattle.pg_base.specs.Catalog.{IsValidCatalog}
 use Rattle.pg_base.specs.declared.does.Does.{Does}
@@ -10,18 +11,22 @@ use Rattle.place_tree.specs.declared.fetch.Fetch.{Fetch}
 use Rattle.place_tree.specs.declared.fetch.Shape.TheVariants as shape
 use Rattle.place_tree.specs.declared.place.Place.{Place}
 use Rattle.place_tree.specs.declared.place.Tree.{Tree}
+use Rattle.pg_base.specs.Value.{is_null}
+use Rattle.pg_base.specs.declared.value.Value.{Value}
+use Rattle.place_tree.specs.Arguments.{argument, items_or_none, is_windowed, order_by}
 use Rattle.place_tree.specs.Exec.{needs_rows}
 use Rattle.place_tree.specs.Fetch.{fetch_of, argument_error}
-use Rattle.place_tree.specs.Fields.{typename, field_of, does_of, is_row_field}
-use Rattle.place_tree.specs.Needs.{is_mutation, signatures}
+use Rattle.place_tree.specs.Fields.{typename, field_of, does_of, is_list, is_row_field}
+use Rattle.place_tree.specs.Needs.{is_backward, is_mutation, signatures}
 use Rattle.place_tree.specs.Typed.{Kind, AreKinds, IsTree}
 use Rattle.plan_constraints.specs.Constraints.{Hold}
 use Rattle.plan_constraints.specs.declared.constraint.Constraint.{Constraint}
-use Rattle.plan_steps.specs.declared.plan.FetchStep.{FetchStep, out-FetchStep}
+use Rattle.plan_steps.specs.declared.plan.FetchStep.{FetchStep, out-FetchStep, roll-FetchStep}
 use Rattle.plan_steps.specs.declared.plan.Layer.{Layer}
 use Rattle.plan_steps.specs.declared.plan.Plan.{Plan}
 use Rattle.plan_steps.specs.declared.plan.Root.{Root}
 use Rattle.plan_steps.specs.declared.plan.Root.TheVariants as root
+use Rattle.plan_steps.specs.declared.plan.SlotWindow.{SlotWindow}
 use Rattle.plan_steps.specs.declared.plan.Step.{Step}
 use Rattle.plan_steps.specs.declared.plan.Step.TheVariants as step
 use Rattle.plan_steps.specs.Check.{is_checked}
@@ -146,14 +151,75 @@ pub record AreFetches (base : BaseParts) (tree : Tree) (constraints : List Const
       → (k i j : ℕ) (field : IsFieldOf base tree plan k i) (other : IsFieldOf base tree plan k j)
       → is_some (argument_error base vars field.place) ≡ is_some (argument_error base vars other.place)
 
--- each row field has a fetch of its own
+-- ---- what fetches tell of their fields
+
+-- a fetch without what it hangs on and whether it asks for rows
+abbrev pub bare : FetchStep → FetchStep
+bare fetch = let f = out-FetchStep fetch in roll-FetchStep (record {
+  table = f.table;
+  by = f.by;
+  parent = None;
+  parent_columns = f.parent_columns;
+  condition = f.condition;
+  key = f.key;
+  order = f.order;
+  window = f.window;
+  rows = true;
+  children = f.children;
+})
+
+-- fields of one name and type with the same arguments as they are written
+abbrev pub AreAlike : Place → Place → Type 0
+AreAlike p q = (p.ty ≡ q.ty) × ((p.field ≡ q.field) × (p.args ≡ q.args))
+
+-- the order that the variables give holds a null
+abbrev pub holds_null : Option Value → Bool
+holds_null given = list_any is_null (items_or_none given)
+
+abbrev pub has_null_order : Vars → Place → Bool
+has_null_order vars p = holds_null (argument vars p order_by)
+
+abbrev pub has_window : SlotWindow → Bool
+has_window w = is_some w.first || (is_some w.last || (is_some w.offset || (is_some w.before || is_some w.after)))
+
+-- a backward list of which a part is asked for
+abbrev pub is_part : BaseParts → Vars → Place → Bool
+is_part base vars p = is_backward (does_of base.schema p) && (is_list base p && is_windowed vars p)
+
+-- Of a fetch that hangs on a row the window tells whether a part is asked for. Where none is, its fields have no error,
+-- or it asks for no rows.
+abbrev pub TellsWindows : BaseParts → Tree → List Constraint → Plan → Type 0
+TellsWindows base tree constraints plan =
+    (vars : Vars) → FitTree base vars tree → Hold constraints vars
+    → (k i item : ℕ) (f : FetchStep) (field : IsFieldOf base tree plan k i)
+    → slice_get plan.steps k ≡ Some (step.Fetch f) → (out-FetchStep f).parent ≡ Some item
+    → (has_window (out-FetchStep f).window ≡ is_part base vars field.place)
+    × (has_window (out-FetchStep f).window ≡ false
+    → (argument_error base vars field.place ≡ None) ⊎ ((out-FetchStep f).rows ≡ false))
+
+-- ---- plain and merged plans
+
+-- each row field has a fetch of its own, which its name and its arguments as written make
 pub record IsPlain (base : BaseParts) (tree : Tree) (constraints : List Constraint) (plan : Plan) : Type 0 where
   pub fetches : AreFetches base tree constraints plan
   pub own : (k i j : ℕ) → IsFieldOf base tree plan k i → IsFieldOf base tree plan k j → i ≡ j
+  pub tells : TellsWindows base tree constraints plan
+  pub alike : (k l i j : ℕ) (f g : FetchStep)
+      → (field : IsFieldOf base tree plan k i) (other : IsFieldOf base tree plan l j)
+      → slice_get plan.steps k ≡ Some (step.Fetch f) → slice_get plan.steps l ≡ Some (step.Fetch g)
+      → AreAlike field.place other.place → bare f ≡ bare g
+  -- of fields whose fetches ask the same, and whose orders both hold a null or none does, both have an error or none
+  pub same_error : (vars : Vars) → FitTree base vars tree → Hold constraints vars
+      → (k l i j : ℕ) (f g : FetchStep)
+      → (field : IsFieldOf base tree plan k i) (other : IsFieldOf base tree plan l j)
+      → slice_get plan.steps k ≡ Some (step.Fetch f) → slice_get plan.steps l ≡ Some (step.Fetch g)
+      → bare f ≡ bare g → has_null_order vars field.place ≡ has_null_order vars other.place
+      → is_some (argument_error base vars field.place) ≡ is_some (argument_error base vars other.place)
 
 -- row fields of one signature share theirs
 pub record IsMerged (base : BaseParts) (tree : Tree) (constraints : List Constraint) (plan : Plan) : Type 0 where
   pub fetches : AreFetches base tree constraints plan
+  pub tells : TellsWindows base tree constraints plan
   pub shared : (i j k l : ℕ) → IsFieldOf base tree plan k i → IsFieldOf base tree plan l j
       → slice_get (signatures base.schema tree.places) i ≡ slice_get (signatures base.schema tree.places) j → k ≡ l
 

@@ -10,7 +10,7 @@ use Rattle.pg_base.specs.declared.value.Value.{Value, List', Object', Row_of-Val
 use Rattle.pg_base.specs.declared.value.Value.{Row_of-Member, end_of-Member, more_of-Member}
 use Rattle.pg_base.specs.declared.value.Value.TheVariants as value
 use Rattle.pg_base.specs.declared.vars.Vars.{Vars}
-use Rattle.gql_input.specs.Inputs.{Reads, int, big_int, text, boolean, cases, fields, nothing, reads_at}
+use Rattle.gql_input.specs.Inputs.{Reads, int, big_int, text, boolean, cases, fields, nothing, reads_at, has_fields}
 use Rattle.gql_input.specs.Leaves.{integer_at, boolean_at, case_at}
 use Rattle.place_tree.specs.declared.place.Place.{Place}
 use Rattle.place_tree.specs.declared.place.Tree.{Tree}
@@ -39,7 +39,7 @@ abbrev mutual
   IsOf schema ty (List' _ items) = IsTrue ty.list × AreOf schema (item_type ty) items
   IsOf schema ty (Object' _ members) =
       IsFalse ty.list × AreFields schema (inputs_of (kind_at schema ty.name)) members
-      × AreDistinct (map (λ m. m.name) (member_list members))
+      × AreDistinct (map (λ m. m.name) (member_list members)) × IsTrue (has_fields (reads_at schema ty.name))
 
   pub AreOf : {n : _} → SchemaParts → TypeRef → Row_of-Value n → Type 0
   AreOf schema ty end_of-Value = ⊤

@@ -5,7 +5,7 @@ ghost use Rattle.std.specs.Prelude.{◌≡◌, ◌+◌};
 use std::marker::Model;
 use std::sync::ledger::{Blank, Book, Ledger, Share};
 
-/// A count that only `tick` changes, and that takes no bytes: it stands in contracts alone.
+/// A count of the plans that were made. Only `Draft::begin` raises it, and it takes no bytes: it stands in contracts alone.
 #[derive(Drop)]
 pub struct Steps<L: Ledger> {
     book: Book<L>,
@@ -35,7 +35,7 @@ impl<L: Ledger> Steps<L> {
     }
 
     /// Counts one more.
-    pub fn tick(&mut self)
+    pub(crate) fn tick(&mut self)
         ensures { self.new ≡ self.old + 1 }
     {
         self.book.add(&mut self.share, 1);

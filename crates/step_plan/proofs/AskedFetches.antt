@@ -204,8 +204,7 @@ module _ (base : BaseParts) (vars other : Vars) (tree : Tree) (i : ℕ) (p : Pla
       (condition_steady vars other (written p.args condition) noted (condition_fits base.schema c.ty law.inputs law.reads law.list (argument vars p condition) (fits_at base.schema vars p f.args condition c e (fit condition))))
       (fits_at base.schema other p f.args condition c e (fit_other condition))
 
-  module _ (table : ℕ) (by : List ℕ) (parent : Option ℕ) (columns : List ℕ) (law : AreListArgs base table f.args) (noted : AreNoted vars other p) (fit : FitArgs base vars p f) (fit_other : FitArgs base other p f)
-      (clean : null_error base.schema other p 0 f.args ≡ None) where
+  module _ (table : ℕ) (by : List ℕ) (parent : Option ℕ) (columns : List ℕ) (law : AreListArgs base table f.args) (noted : AreNoted vars other p) (fit : FitArgs base vars p f) (fit_other : FitArgs base other p f) where
     abbrev shown : Bool
     shown = needs_rows base.schema tree.places i
 
@@ -215,37 +214,38 @@ module _ (base : BaseParts) (vars other : Vars) (tree : Tree) (i : ℕ) (p : Pla
     order_type : cases_of_arg base f order_by ≡ cases_of (kind_at base.schema law.order.ty.name)
     order_type = ap (λ n. cases_of (kind_at base.schema n)) (type_is f.args order_by law.order law.is_order)
 
-    order_same : list_order base f other table p ≡ list_order base f vars table p
+    pub order_same : list_order base f other table p ≡ list_order base f vars table p
     order_same = ap (λ g. order_of (cases_of_arg base f order_by) (columns_of base.catalog table) (names_of_order g)) noted.order
 
-    names_due : order_names base table (list_order base f other table p) ≡ list_names other p
+    pub names_due : order_names base table (list_order base f other table p) ≡ list_names other p
     names_due =
         ap (λ k. map (λ b. order_name (slice_get (columns_of base.catalog table) b.column) b.descending) (order_of k (columns_of base.catalog table) (list_names other p))) order_type
         ∙ names_are (columns_of base.catalog table) (cases_of (kind_at base.schema law.order.ty.name)) law.each_case (list_names other p)
         (order_named base.schema law.order.ty (cases_of (kind_at base.schema law.order.ty.name)) law.order_reads (argument other p order_by) (fits_at base.schema other p f.args order_by law.order law.is_order (fit_other order_by)))
 
-    no_null_order : holds_null (argument vars p order_by) ≡ false
-    no_null_order = ap holds_null (sym noted.order) ∙ holds_none base.schema law.order.ty (argument other p order_by) law.order_items (no_null base.schema other p 0 f.args clean order_by law.order law.is_order)
+    module _ (clean : null_error base.schema other p 0 f.args ≡ None) where
+      no_null_order : holds_null (argument vars p order_by) ≡ false
+      no_null_order = ap holds_null (sym noted.order) ∙ holds_none base.schema law.order.ty (argument other p order_by) law.order_items (no_null base.schema other p 0 f.args clean order_by law.order law.is_order)
 
-    rows_asked : shown ≡ true → list_rows vars p shown ≡ true
-    rows_asked e = ap (λ b. b && not (holds_null (argument vars p order_by))) e ∙ ap not no_null_order
+      rows_asked : shown ≡ true → list_rows vars p shown ≡ true
+      rows_asked e = ap (λ b. b && not (holds_null (argument vars p order_by))) e ∙ ap not no_null_order
 
-    pub list_serves : (steps : List Step) (b : Basis) (key : KeyCells) → KeyServes steps b base other fetch key → FetchServes steps b base tree other i fetch (list_fetch base f other p table by key)
-    list_serves steps b key k =
-        let e = out-roll-FetchStep _ in
-        let order = sym order_same in
-        record {
-          table = ap (λ o. o.table) e;
-          by = ap (λ o. o.by) e;
-          key = k;
-          condition = ap (λ o. map (filled_equal base other o.table) o.condition) e ∙ condition_due table (slice_get f.args condition) refl law.may_be_condition noted.condition fit fit_other;
-          order = ap (λ o. o.order) e ∙ order;
-          window = ap (λ o. filled_window base other o.table o.order o.window) e ∙ window_is base vars other p table (list_order base f vars table p) noted.alike
-              ∙ ap (λ o. window_of base.catalog (columns_of base.catalog table) o other p) order;
-          names = names_due;
-          rows = λ n. ap (λ o. o.rows) e ∙ rows_asked n;
-          one = λ n. cc;
-        }
+      pub list_serves : (steps : List Step) (b : Basis) (key : KeyCells) → KeyServes steps b base other fetch key → FetchServes steps b base tree other i fetch (list_fetch base f other p table by key)
+      list_serves steps b key k =
+          let e = out-roll-FetchStep _ in
+          let order = sym order_same in
+          record {
+            table = ap (λ o. o.table) e;
+            by = ap (λ o. o.by) e;
+            key = k;
+            condition = ap (λ o. map (filled_equal base other o.table) o.condition) e ∙ condition_due table (slice_get f.args condition) refl law.may_be_condition noted.condition fit fit_other;
+            order = ap (λ o. o.order) e ∙ order;
+            window = ap (λ o. filled_window base other o.table o.order o.window) e ∙ window_is base vars other p table (list_order base f vars table p) noted.alike
+                ∙ ap (λ o. window_of base.catalog (columns_of base.catalog table) o other p) order;
+            names = names_due;
+            rows = λ n. ap (λ o. o.rows) e ∙ rows_asked n;
+            one = λ n. cc;
+          }
 
   pub row_serves : (table : ℕ) (by : List ℕ) (parent : Option ℕ) (columns : List ℕ) (slots : List Slot) (steps : List Step) (b : Basis) (key : KeyCells) → KeyServes steps b base other (row_step table by parent columns slots) key →
       FetchServes steps b base tree other i (row_step table by parent columns slots) (row_fetch table by key)

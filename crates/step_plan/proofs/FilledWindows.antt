@@ -63,7 +63,7 @@ number_is vars other (Some (Case c)) h = refl
 number_is vars other (Some (List' s xs)) h = refl
 number_is vars other (Some (Object' s xs)) h = refl
 
-text_is : (vars other : Vars) (w : Option ArgValue) → IsAlike vars other w → text_of (slot_value other (window_slot vars w)) ≡ text_of (option_and_then (value_with other) w)
+pub text_is : (vars other : Vars) (w : Option ArgValue) → IsAlike vars other w → text_of (slot_value other (window_slot vars w)) ≡ text_of (option_and_then (value_with other) w)
 text_is vars other None h = refl
 text_is vars other (Some (Variable name)) h = variable_text other name (is_given (variable vars name)) h
 text_is vars other (Some Null) h = refl

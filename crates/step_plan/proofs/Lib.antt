@@ -1,10 +1,13 @@
 pub mod Notes
 pub mod FewTypes
 pub mod Facts
+pub mod ArgTypes
 pub mod Schemas
+pub mod SchemaTypes
 pub mod Plannable
 pub mod Cells
 pub mod FilledWindows
+pub mod WindowSlots
 pub mod Conditions
 pub mod AskedFetches
 pub mod ShownIds
@@ -23,6 +26,8 @@ pub mod Held
 pub mod Members
 pub mod Marks
 pub mod Turns
+pub mod Told
+pub mod Alike
 pub mod Hung
 pub mod Plain
 pub mod PlainPlan

@@ -42,11 +42,12 @@ use Rattle.step_plan.specs.declared.making.Below.{Below}
 use Rattle.step_plan.specs.declared.making.Footing.{Footing}
 use Rattle.step_plan.specs.declared.making.Footing.TheVariants as footing
 use Rattle.step_plan.proofs.Checked.{LayersGoOn, AreLaid, each_more, each_last, split, here, item_layer, fetch_layer, fresh_in}
-use Rattle.step_plan.proofs.Grown.{GoesOn, basis_at, Fits, up, adds_here, next, stands, placed, basis_here, basis_up, is_out_here, rooted}
+use Rattle.step_plan.proofs.Grown.{GoesOn, added_at, basis_at, Fits, up, adds_here, next, stands, placed, basis_here, basis_up, is_out_here, rooted}
 use Rattle.step_plan.proofs.Hung.{IsRowIn, IsHung, HasHung, field_hung}
 use Rattle.step_plan.proofs.Layers.{layer_push_new}
 use Rattle.step_plan.proofs.Places.{basis_of, some_and, inside}
 use Rattle.step_plan.proofs.Plannable.{IsPlanned}
+use Rattle.step_plan.proofs.Told.{fetch_added}
 use Rattle.step_plan.proofs.Used.{HoldsUsed, HoldsOn, HoldsNamed, used_by_added, named_by_field}
 
 pub and_right : (a b : Bool) → (a && b) ≡ true → b ≡ true
@@ -202,6 +203,7 @@ module _ (base : BaseParts) (tree : Tree) (whole : Making) (at n : ℕ) (p : Pla
   pub record IsNewFetch (a : Added) (f : FetchStep) : Type 0 where
     pub hung : IsHung base tree whole at n layer p d g f
     pub below : IsBelowFetch at (basis_of (footing_with at a))
+    pub made : fetch_added a ≡ Some f
     pub laid_ : layer_of whole.layers at ≡ Some layer
 
   laid_here : LayersGoOn (into layers layer at) whole.layers → layer_of whole.layers at ≡ Some layer
@@ -220,13 +222,14 @@ module _ (base : BaseParts) (tree : Tree) (whole : Making) (at n : ℕ) (p : Pla
   fetch_new (adds.Leaf s) h goes zero f e = absurd (no_fetch s f h.0 e)
   fetch_new (adds.Leaf s) h goes (suc j) f e = cc
   fetch_new (adds.List x) h goes zero f e =
-      (refl, record { hung = subst (IsHung base tree whole at n layer p d g) (same_fetch x f e) h; below = refl; laid_ = laid_here goes })
+      (refl, record { hung = subst (IsHung base tree whole at n layer p d g) (same_fetch x f e) h; below = refl; made = ap Some (same_fetch x f e); laid_ = laid_here goes })
   fetch_new (adds.List x) h goes (suc j) f e = cc
   fetch_new (adds.Row x) h goes zero f e = (
     refl,
     record {
       hung = subst (IsHung base tree whole at n layer p d g) (same_fetch x f e) h;
       below = refl;
+      made = ap Some (same_fetch x f e);
       laid_ = goes.layer at layer (fetch_layer layers (layer_over at (at + 1) ∷ []) layer at lt laid);
     },
   )
@@ -282,6 +285,8 @@ module _ (base : BaseParts) (tree : Tree) (vars : Vars) (planned : IsPlanned bas
     pub hangs : HangsOn whole.steps (basis_above (basis_at whole.belows) field.place.parent) (out-FetchStep f).parent
     pub below : IsBelowFetch k (basis_at whole.belows i)
     pub stands_ : StandsWith whole.layers k (out-FetchStep f).parent
+    -- it is what the field adds
+    pub made : (g : Footing) × (fetch_added (added_at base vars tree i field.place g) ≡ Some f)
 
   abbrev pub IsMutationAt : ℕ → Type 0
   IsMutationAt place = (p : Place) × (slice_get tree.places place ≡ Some p) × (is_mutation (does_of base.schema p) ≡ true)
@@ -420,6 +425,7 @@ module _ (base : BaseParts) (tree : Tree) (vars : Vars) (planned : IsPlanned bas
                     hangs = subst (λ b. HangsOn whole.steps b (out-FetchStep x).parent) (sym (basis_up base tree vars planned constraints noted whole m n fits p is_place on)) new.1.hung.hangs;
                     below = subst (IsBelowFetch at) (sym (basis_here base tree vars planned constraints noted whole m n fits p is_place on)) new.1.below;
                     stands_ = new.1.hung.stands new.1.laid_;
+                    made = (above_.footing, new.1.made);
                   },
                 );
             given = given_new base tree whole at n p m.layers above_.layer lt laid f.does above_.footing adds_ has goes

@@ -8,17 +8,19 @@ use Rattle.pg_base.specs.Lists.{Each}
 use Rattle.pg_base.specs.declared.vars.Vars.{Vars}
 use Rattle.place_tree.specs.Exec.{needs_rows}
 use Rattle.place_tree.specs.Fetch.{argument_error}
-use Rattle.place_tree.specs.Fields.{does_of, is_row_field}
+use Rattle.place_tree.specs.Fields.{field_of, does_of, is_row_field}
 use Rattle.place_tree.specs.Typed.{StandsUnder}
 use Rattle.place_tree.specs.declared.place.Place.{Place}
 use Rattle.place_tree.specs.declared.place.Tree.{Tree}
+use Rattle.plan_constraints.proofs.Steady.{noted_there}
 use Rattle.plan_constraints.specs.Constraints.{Hold}
 use Rattle.plan_constraints.specs.Noted.{noted_all}
 use Rattle.plan_constraints.specs.declared.constraint.Constraint.{Constraint}
 use Rattle.plan_steps.proofs.Bools.{or_cases, or_right}
 use Rattle.plan_steps.specs.Chains.{is_in}
 use Rattle.plan_steps.specs.Check.{given_fits}
-use Rattle.plan_steps.specs.Fetches.{IsStart, IsFieldOf, HangsOn, IsBelowFetch, AreFetches, IsPlain}
+use Rattle.plan_steps.specs.Fetches.{IsStart, IsFieldOf, HangsOn, IsBelowFetch, AreFetches, bare, AreAlike, has_null_order, TellsWindows, IsPlain}
+use Rattle.plan_steps.specs.Fitting.{FitTree}
 use Rattle.plan_steps.specs.Named.{used_by, over_in}
 use Rattle.plan_steps.specs.Serves.{basis_above}
 use Rattle.plan_steps.specs.Under.{parent_in, above, is_under, is_used}
@@ -29,7 +31,10 @@ use Rattle.plan_steps.specs.declared.plan.Root.TheVariants as root
 use Rattle.plan_steps.specs.declared.plan.Step.TheVariants as step
 use Rattle.rel_model.specs.declared.tables.Row.{Row}
 use Rattle.step_plan.specs.Drafted.{Making, below_of, grown, out_of, with_places, nothing_made, made, drafted}
+use Rattle.step_plan.specs.declared.making.Footing.{Footing}
 use Rattle.step_plan.proofs.Addable.{place_ok}
+use Rattle.step_plan.proofs.Alike.{added_alike}
+use Rattle.step_plan.proofs.AskedFetches.{noted_parts}
 use Rattle.step_plan.proofs.Checked.{LayersGoOn, AreGood, good_next, good_nothing}
 use Rattle.step_plan.proofs.Grown.{GoesOn, goes_all, added_at, get_drop, drop_next, basis_at, Fits, stands, placed, shown_taken, fits_next, fits_nothing, drafted_serves}
 use Rattle.step_plan.proofs.Hung.{and_left}
@@ -37,6 +42,7 @@ use Rattle.step_plan.proofs.Places.{inside}
 use Rattle.step_plan.proofs.Plain.{and_right, more_fuel, each_is, not_both, IsFrom, FetchFrom, ArePlain, plain_next, plain_nothing}
 use Rattle.step_plan.proofs.Plannable.{IsPlanned}
 use Rattle.step_plan.proofs.Tested.{given_test}
+use Rattle.step_plan.proofs.Told.{fetch_added, has_error, Tells, added_tells, tells_part, tells_error, error_alike}
 use Rattle.step_plan.proofs.Used.{HoldsUsed}
 use Rattle.step_plan.proofs.Whole.{laid_next, layer_above, layers_all, laid_good, lies_above, drafted_good}
 
@@ -163,5 +169,41 @@ module _ (base : BaseParts) (tree : Tree) (vars : Vars) (planned : IsPlanned bas
     one_error = λ other fit hold k i j field same. ap (λ p. is_some (argument_error base other p)) (one_place k i j field same);
   }
 
+  -- ---- what fetches tell
+
+  -- the fetch of a field is what that adds
+  made_by : (k i : ℕ) (f : FetchStep) (field : FieldOf k i) → slice_get whole.steps k ≡ Some (step.Fetch f) → (g : Footing) × (fetch_added (added_at base vars tree i field.place g) ≡ Some f)
+  made_by k i f field e =
+      let r = plain.fetches k f e in
+      let one : r.0 ≡ i = own_fetch k r.0 i r.1.field field in
+      let same : r.1.field.place ≡ field.place = one_place k r.0 i r.1.field field in
+      (r.1.made.0, subst (λ j. fetch_added (added_at base vars tree j field.place r.1.made.0) ≡ Some f) one (subst (λ p. fetch_added (added_at base vars tree r.0 p r.1.made.0) ≡ Some f) same r.1.made.1))
+
+  told : (other : Vars) → FitTree base other tree → Hold constraints other → (k i : ℕ) (f : FetchStep) (field : FieldOf k i) → slice_get whole.steps k ≡ Some (step.Fetch f) → Tells base other field.place f
+  told other fit hold k i f field e =
+      let made = made_by k i f field e in
+      added_tells base vars other tree planned fit i field.place field.is_place
+      (λ listed. noted_parts vars other field.place (noted_there base vars other tree (noted other hold) i field.place field.is_place listed))
+      (needs_rows base.schema tree.places i) made.0 f (field_of base.schema field.place) refl made.1
+
+  tells_windows : TellsWindows base tree constraints (drafted base tree vars)
+  tells_windows other fit hold k i item f field e hung =
+      let tells = told other fit hold k i f field e in
+      (tells_part base other field.place f tells item hung, tells_error base other field.place f tells item hung)
+
+  alike : (k l i j : ℕ) (f g : FetchStep) → (field : FieldOf k i) (other : FieldOf l j) → slice_get whole.steps k ≡ Some (step.Fetch f) → slice_get whole.steps l ≡ Some (step.Fetch g) → AreAlike field.place other.place → bare f ≡ bare g
+  alike k l i j f g field other e is same =
+      let made = made_by k i f field e in
+      let made_too = made_by l j g other is in
+      added_alike base vars tree.places field.place other.place (needs_rows base.schema tree.places i) (needs_rows base.schema tree.places j) made.0 made_too.0 f g same made.1 made_too.1
+
+  same_error : (other : Vars) → FitTree base other tree → Hold constraints other → (k l i j : ℕ) (f g : FetchStep) → (field : FieldOf k i) (field_too : FieldOf l j) → slice_get whole.steps k ≡ Some (step.Fetch f) → slice_get whole.steps l ≡ Some (step.Fetch g)
+      → bare f ≡ bare g → has_null_order other field.place ≡ has_null_order other field_too.place → is_some (argument_error base other field.place) ≡ is_some (argument_error base other field_too.place)
+  same_error other fit hold k l i j f g field field_too e is same orders =
+      (told other fit hold k i f field e).error
+      ∙ ap (λ b. has_error base other b f) orders
+      ∙ error_alike base other (has_null_order other field_too.place) f g same
+      ∙ sym (told other fit hold l j g field_too is).error
+
   pub drafted_plain : IsPlain base tree constraints (drafted base tree vars)
-  drafted_plain = record { fetches = are_fetches; own = own_fetch }
+  drafted_plain = record { fetches = are_fetches; own = own_fetch; tells = tells_windows; alike = alike; same_error = same_error }

@@ -26,8 +26,10 @@ use Rattle.schema_laws.proofs.Eaches.{Each-get}
 use Rattle.schema_laws.proofs.Leading.{are_kinds, mutation_kind}
 use Rattle.schema_laws.proofs.Numbers.{is_numbered}
 use Rattle.schema_laws.proofs.Shaped.{have_shapes}
-use Rattle.step_plan.specs.Planned.{IsRootType, HasFieldsOnce, IsPlannable}
+use Rattle.step_plan.specs.Planned.{IsRootType, HasOwnArgs, HasFieldsOnce, IsPlannable}
+use Rattle.step_plan.proofs.ArgTypes.{AreTyped}
 use Rattle.step_plan.proofs.Facts.{AreArgs, IsLinkIn, IsKeyIn, key_is_in, link_is_in}
+use Rattle.step_plan.proofs.SchemaTypes.{types_by}
 use Rattle.step_plan.proofs.Schemas.{same_link, same_key, same_finds, args_by, field_valid}
 
 pub record IsPlanned (base : BaseParts) (tree : Tree) (vars : Vars) : Type 0 where
@@ -35,12 +37,14 @@ pub record IsPlanned (base : BaseParts) (tree : Tree) (vars : Vars) : Type 0 whe
   pub query : kinds base.schema.query ≡ OfQuery
   pub leads : (ty field : ℕ) (f : FieldDef) → field_at base.schema ty field ≡ Some f → Leads base.catalog f.does (kinds ty) (kinds f.ty.name)
   pub args : (ty field : ℕ) (f : FieldDef) → field_at base.schema ty field ≡ Some f → AreArgs base f.args f.does
+  pub types : (ty field : ℕ) (f : FieldDef) → field_at base.schema ty field ≡ Some f → AreTyped base f.args f.does
   pub links : (table place : ℕ) (l : LinkDef) → link_at base.catalog table place ≡ Some l → IsLinkIn base.catalog table l
   pub keys : (table place : ℕ) (k : KeyDef) → key_at base.catalog table place ≡ Some k → IsKeyIn base.catalog table k
   pub root : ℕ
   pub root_kind : (kinds root ≡ OfQuery) ⊎ (kinds root ≡ OfMutation)
   pub is_tree : IsTree base.schema root tree.places
   pub named : (i : ℕ) (p : Place) → slice_get tree.places i ≡ Some p → field_of base.schema p ≡ None → (p.field == typename) ≡ true
+  pub own : (i : ℕ) (p : Place) → slice_get tree.places i ≡ Some p → HasOwnArgs base.schema p
   pub once : (i : ℕ) (p : Place) → slice_get tree.places i ≡ Some p → IfSome (written p.args 0) HasFieldsOnce
   pub fit : FitTree base vars tree
 
@@ -128,12 +132,14 @@ module _ (c : CatalogParts) (valid : IsValidCatalog c) where
         query = ap to_kind laws_are.query;
         leads = λ ty field f e. as_kinds f.does (kinds_of c ty) (kinds_of c f.ty.name) (laws_are.fields ty field f e);
         args = λ ty field f e. args_by c valid f f.does (field_valid c valid ty field f e) (have_shapes c ty field f e) (all_there f.does (kinds_of c ty) (kinds_of c f.ty.name) (laws_are.fields ty field f e));
+        types = λ ty field f e. types_by c valid f f.does (have_shapes c ty field f e) (all_there f.does (kinds_of c ty) (kinds_of c f.ty.name) (laws_are.fields ty field f e));
         links = λ table place l e. link_is_in c valid table place l e;
         keys = λ table place k e. key_is_in c valid table place k e;
         root = h.root;
         root_kind = root_of h.root h.of_root;
         is_tree = h.formed.tree;
         named = λ i p at none. has_name p (Each-get (HasField (schema_of c)) tree.places i p h.formed.fields at) none;
+        own = λ i p at. Each-get (HasOwnArgs (schema_of c)) tree.places i p h.own at;
         once = λ i p at. Each-get (λ (q : Place). IfSome (written q.args 0) HasFieldsOnce) tree.places i p h.once at;
         fit = h.fit;
       }

@@ -69,7 +69,7 @@ reads_listed schema n lt =
     reads_beyond schema n (n == numbers.int) (n == numbers.string) (n == numbers.boolean) refl refl refl
     (ne_eqb n numbers.int (λ e. omega (arith, e, lt))) (ne_eqb n numbers.string (λ e. omega (arith, e, lt))) (ne_eqb n numbers.boolean (λ e. omega (arith, e, lt)))
 
-reads_cases : (schema : SchemaParts) (n : ℕ) (names : List (List ℕ)) → n < numbers.int → kind_at schema n ≡ type_kind.Enum names → reads_at schema n ≡ cases (cases_of (kind_at schema n))
+pub reads_cases : (schema : SchemaParts) (n : ℕ) (names : List (List ℕ)) → n < numbers.int → kind_at schema n ≡ type_kind.Enum names → reads_at schema n ≡ cases (cases_of (kind_at schema n))
 reads_cases schema n names lt e = reads_listed schema n lt ∙ ap (λ k. reads_of k (type_name_at schema n)) e ∙ sym (ap (λ k. cases (cases_of k)) e)
 
 reads_fields : (schema : SchemaParts) (n : ℕ) (args : List ArgDef) → n < numbers.int → kind_at schema n ≡ type_kind.Input args → reads_at schema n ≡ fields args
@@ -166,7 +166,7 @@ module _ (c : CatalogParts) (valid : IsValidCatalog c) where
   abbrev base : BaseParts
   base = base_of c
 
-  small : (r : Role) → Has r (roles_of c) → place_of (roles_of c) r < numbers.int
+  pub small : (r : Role) → Has r (roles_of c) → place_of (roles_of c) r < numbers.int
   small r h =
       let few = few_types c valid in
       let within = slice_get_within (roles_of c) (place_of (roles_of c) r) r (found (roles_of c) r h) in
@@ -200,7 +200,7 @@ module _ (c : CatalogParts) (valid : IsValidCatalog c) where
 
   -- ---- keys
 
-  column_there : (t : TableDef) (place : ℕ) (o : Option ColumnDef) → slice_get t.columns place ≡ o → place < length t.columns → (d : ColumnDef) × (slice_get t.columns place ≡ Some d)
+  pub column_there : (t : TableDef) (place : ℕ) (o : Option ColumnDef) → slice_get t.columns place ≡ o → place < length t.columns → (d : ColumnDef) × (slice_get t.columns place ≡ Some d)
   column_there t place None e lt = absurd (none_within t.columns place lt e)
     where
       none_within : (xs : List ColumnDef) (k : ℕ) → k < length xs → slice_get xs k ≡ None → ⊥
@@ -327,7 +327,7 @@ module _ (c : CatalogParts) (valid : IsValidCatalog c) where
   same_finds None l = refl
   same_finds (Some t) l = refl
 
-  table_of_link : (table link : ℕ) (l : LinkDef) → link_at c table link ≡ Some l → (t : TableDef) × (slice_get c.tables table ≡ Some t)
+  pub table_of_link : (table link : ℕ) (l : LinkDef) → link_at c table link ≡ Some l → (t : TableDef) × (slice_get c.tables table ≡ Some t)
   table_of_link table link l h = by (slice_get c.tables table) refl h
     where
       by : (o : Option TableDef) → slice_get c.tables table ≡ o → link_in o link ≡ Some l → (t : TableDef) × (slice_get c.tables table ≡ Some t)

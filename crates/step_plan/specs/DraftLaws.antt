@@ -6,7 +6,7 @@ use Rattle.pg_base.specs.declared.vars.Vars.{Vars}
 use Rattle.place_tree.specs.declared.place.Tree.{Tree}
 use Rattle.plan_constraints.specs.Noted.{noted}
 use Rattle.plan_steps.specs.Check.{is_checked}
-use Rattle.plan_steps.specs.Fetches.{IsPlain}
+use Rattle.plan_steps.specs.Fetches.{IsTreeOver, IsPlain}
 use Rattle.plan_steps.specs.Serves.{ServesAll}
 use Rattle.plan_steps.specs.Sound.{IsSound}
 use Rattle.step_plan.specs.Drafted.{drafted}
@@ -18,6 +18,11 @@ pub record MayPlan (base : BaseParts) (tree : Tree) (vars : Vars) : Type 0 where
   pub catalog : IsValidCatalog base.catalog
   pub tree_ : IsPlannable base tree vars
 
+-- such a tree is one over the base
+abbrev pub PlannableTreesStandOverBases : Type 0
+PlannableTreesStandOverBases = (base : BaseParts) (tree : Tree) (vars : Vars) → MayPlan base tree vars
+    → IsTreeOver base tree
+
 -- the plan is well formed
 abbrev pub DraftedAreWellFormed : Type 0
 DraftedAreWellFormed = (base : BaseParts) (tree : Tree) (vars : Vars) → MayPlan base tree vars
@@ -28,7 +33,7 @@ abbrev pub DraftedServe : Type 0
 DraftedServe = (base : BaseParts) (tree : Tree) (vars : Vars) → MayPlan base tree vars
     → ServesAll base tree (noted base vars tree) (drafted base tree vars)
 
--- each row field has a fetch of its own, and there are no others
+-- each row field has a fetch of its own, which tells of its window, its arguments and its errors; there are no others
 abbrev pub DraftedArePlain : Type 0
 DraftedArePlain = (base : BaseParts) (tree : Tree) (vars : Vars) → MayPlan base tree vars
     → IsPlain base tree (noted base vars tree) (drafted base tree vars)

@@ -12,6 +12,11 @@ pub fn noted_keep_trees()
     agreeing_variables_collect_the_same();
 }
 
+/// A tree of which a plan can be made is a tree over its base.
+pub fn plannable_trees_stand_over_bases()
+    ensures { drafts.PlannableTreesStandOverBases }
+{}
+
 /// The plan that is drafted for a tree is well formed.
 pub fn drafted_are_well_formed()
     ensures { drafts.DraftedAreWellFormed }
@@ -22,7 +27,8 @@ pub fn drafted_serve()
     ensures { drafts.DraftedServe }
 {}
 
-/// Each row field has a fetch of its own in it, and there are no others.
+/// Each row field has a fetch of its own in it, which tells of its window, its arguments and its errors, and there are no
+/// others.
 pub fn drafted_are_plain()
     ensures { drafts.DraftedArePlain }
 {}
