@@ -13,15 +13,16 @@ pub mod Joined
 pub mod KeyLengths
 pub mod KeysMade
 pub mod KeysTold
+pub mod LastRows
 pub mod Listed
 pub mod LookedUp
 pub mod Loops
 pub mod MaySend
 pub mod NextPlaces
+pub mod Passed
 pub mod Ran
 pub mod Reached
 pub mod Readied
-pub mod SameFetch
 pub mod SameLists
 pub mod Shown
 pub mod Steps

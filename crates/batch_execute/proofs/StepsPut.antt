@@ -42,7 +42,7 @@ pub drop_all : {A : Type 0} (xs : List A) → drop (length xs) xs ≡ []
 drop_all [] = refl
 drop_all (x ∷ xs) = drop_all xs
 
-item_any : {A : Type 0} (xs : List A) (i : ℕ) (d e : A) → i < length xs → slice_index_or xs i d ≡ slice_index_or xs i e
+pub item_any : {A : Type 0} (xs : List A) (i : ℕ) (d e : A) → i < length xs → slice_index_or xs i d ≡ slice_index_or xs i e
 item_any [] i d e lt = absurd (omega (arith, lt))
 item_any (x ∷ xs) zero d e lt = refl
 item_any (x ∷ xs) (suc i) d e lt = item_any xs i d e (omega (arith, lt))

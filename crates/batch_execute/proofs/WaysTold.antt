@@ -14,7 +14,7 @@ use Rattle.batch_execute.specs.declared.way.Way.TheVariants.{Other, Once, Sent, 
 use Rattle.stmt_tree.specs.declared.found.Key.{Key}
 use Rattle.batch_execute.specs.Entries.{is_due}
 use Rattle.batch_execute.specs.Ways.{fetch_above, way_found, way_by, way_in, way_of}
-use Rattle.batch_execute.proofs.SameFetch.{fetch_tells}
+use Rattle.plan_steps.proofs.SameFetch.{fetch_tells}
 
 -- ---- the first place at which a test holds
 

@@ -13,6 +13,7 @@ pub mod Ready
 pub mod Roles
 pub mod Taken
 pub mod Trails
+pub mod Used
 pub mod Values
 pub mod Visited
 pub mod Ways

@@ -1,4 +1,4 @@
-//! Which steps of a plan are asked for.
+//! What stands under a root, what a step names, and which row fields it serves.
 
 ghost use Rattle.std.specs.Prelude.{◌≡◌, ◌==◌, ◌&&◌, ◌-◌, Some, option_map, slice_get, length};
 ghost use Rattle.std.specs.List.{list_any};
@@ -50,7 +50,8 @@ fn is_below(places: &[Place], root: u32, place: u32) -> bool
     false
 }
 
-fn is_under(places: &[Place], root: Option<u32>, place: u32) -> bool
+/// Whether a place stands under a root.
+pub(crate) fn is_under(places: &[Place], root: Option<u32>, place: u32) -> bool
     ensures { result ≡ under.is_below places.now root place }
 {
     match root {
@@ -59,7 +60,7 @@ fn is_under(places: &[Place], root: Option<u32>, place: u32) -> bool
     }
 }
 
-// ---- what a place uses
+// ---- what a step names
 
 fn named_by(step: &Step) -> Option<u32>
     ensures { result ≡ named.named_by step.now }
@@ -77,61 +78,14 @@ fn named_by(step: &Step) -> Option<u32>
     }
 }
 
-fn named_at(steps: &[Step], step: u32) -> Option<u32>
+/// The step that the step at a place names.
+pub(crate) fn named_at(steps: &[Step], step: usize) -> Option<u32>
     ensures { result ≡ named.named_at steps.now step }
 {
-    match at(steps, step as usize) {
+    match at(steps, step) {
         None => None,
         Some(found) => named_by(found),
     }
-}
-
-/// Whether what shows a step uses another one.
-fn uses(steps: &[Step], shown: u32, step: usize) -> bool
-    ensures { result ≡ chains.is_in (named.used_by steps.now shown) step }
-{
-    let mut used = Some(shown);
-    for turn in 0..steps.len() {
-        let Some(other) = used else {
-            return false;
-        };
-        if other as usize == step {
-            return true;
-        }
-        used = named_at(steps, other);
-    }
-    false
-}
-
-fn uses_under(
-    places: &[Place],
-    steps: &[Step],
-    root: Option<u32>,
-    out: OutPlace,
-    step: usize,
-) -> bool
-    ensures { result ≡ (under.is_below places.now root out.place
-        && chains.is_in (named.used_by steps.now out.step) step) }
-{
-    if !is_under(places, root, out.place) {
-        return false;
-    }
-    uses(steps, out.step, step)
-}
-
-/// Whether a place under the root uses a step.
-pub(crate) fn is_used(
-    places: &[Place],
-    steps: &[Step],
-    outs: &[OutPlace],
-    root: Option<u32>,
-    step: usize,
-) -> bool
-    ensures { result ≡ list_any (λ o. under.is_below places.now root o.place
-        && chains.is_in (named.used_by steps.now o.step) step) outs.now }
-{
-    outs.iter()
-        .any(|out| uses_under(places, steps, root, *out, step))
 }
 
 // ---- row fields that a step serves

@@ -25,6 +25,7 @@ use crate::fetching::{Asked, fetch_all};
 use crate::nexts::nexts_of;
 use crate::role::Role;
 use crate::roles::{roles_of, steps_of};
+use crate::used::used_steps;
 use crate::values::Values;
 use crate::visiting::{Reader, visit_places};
 use crate::ways::ways_of;
@@ -134,11 +135,13 @@ pub fn execute<R: Rows>(
 {
     entry.know();
     let roles = roles_of(alloc, entry.base(), vars, entry.tree().places.as_slice())?;
+    let used = used_steps(alloc, entry, root)?;
     let asked = Asked {
         entry,
         root,
         vars,
         roles: roles.as_slice(),
+        used: used.as_slice(),
     };
     let mut left = room;
     match fetch_all(alloc, &asked, at, rows, &mut left) {

@@ -23,15 +23,17 @@ ghost use Rattle.batch_execute.specs.Held.{held};
 ghost use Rattle.batch_execute.specs.Keys as keys_of;
 ghost use Rattle.batch_execute.specs.Reading as reading;
 ghost use Rattle.batch_execute.specs.Roles.{roles_of};
+ghost use Rattle.batch_execute.specs.Used.{AreUsed};
 ghost use Rattle.batch_execute.specs.Ways.{way_of as way_there};
 
-use crate::asking::{is_used, may_ask, root_place};
+use crate::asking::{may_ask, root_place};
 use crate::fault::ExecFault;
 use crate::fetched::Fetched;
 use crate::filling::{filled_key, stmt_of};
 use crate::keys::{ascending, keys_for};
 use crate::role::Role;
 use crate::trees::{held_within, take_all};
+use crate::used::is_used;
 use crate::way::Way;
 use crate::ways::{fetch_at, way_of};
 use pg_base::{Memory, Vars};
@@ -41,13 +43,15 @@ use sqlite_items::{Items, at};
 use std::alloc::Global;
 use stmt_tree::{Batch, Key, Rows, RunFault};
 
-/// What a plan is run for: its root, the variables, and what each place shows of what its step found.
+/// What a plan is run for: its root, the variables, what each place shows of what its step found, and which steps the
+/// places under the root use.
 #[derive(Clone, Copy, Drop)]
 pub(crate) struct Asked<'a> {
     pub entry: &'a Entry,
     pub root: &'a Root,
     pub vars: &'a Vars,
     pub roles: &'a [Role],
+    pub used: &'a [bool],
 }
 
 // ---- keys
@@ -179,8 +183,10 @@ fn is_due(way: Way, keys: &[Key]) -> bool
 
 /// Whether a step is used under the root, and not for fields with errors alone.
 fn may_send(q: &Asked<'_>, step: usize) -> bool
-    requires { q.now.roles.now ≡
+    requires roles { q.now.roles.now ≡
         roles_of q.now.entry.now.base q.now.vars.now q.now.entry.now.tree.places }
+    requires used { AreUsed q.now.entry.now q.now.root.now q.now.used.now }
+    requires here { step < length q.now.entry.now.plan.steps }
     ensures value { (tables : Tables) → result ≡ spec.may_send
         (denoted.moment q.now.entry.now.base tables q.now.vars.now q.now.root.now)
         q.now.entry.now.tree q.now.entry.now.plan q.now.root.now step }
@@ -188,10 +194,9 @@ fn may_send(q: &Asked<'_>, step: usize) -> bool
         → under.is_used q.now.entry.now.tree q.now.entry.now.plan q.now.root.now step ≡ true }
 {
     let places = q.entry.tree().places.as_slice();
-    let plan = q.entry.plan();
-    let (steps, outs) = (plan.steps.as_slice(), plan.out.as_slice());
+    let outs = q.entry.plan().out.as_slice();
     let root = root_place(q.root);
-    if !is_used(places, steps, outs, root, step) {
+    if !is_used(q.used, step) {
         return false;
     }
     may_ask(places, q.roles, outs, root, step)
@@ -323,6 +328,8 @@ fn fetch_step<R: Rows>(
         q.now.entry.now.plan) }
     requires roles { q.now.roles.now ≡
         roles_of q.now.entry.now.base q.now.vars.now q.now.entry.now.tree.places }
+    requires used { AreUsed q.now.entry.now q.now.root.now q.now.used.now }
+    requires here { step < length q.now.entry.now.plan.steps }
     ensures serves { (a : R.At) (c : CatalogParts)
         → R.serves rows.old a c → R.serves rows.new a c }
     ensures serves_no_more { (a : R.At) (c : CatalogParts)
@@ -365,6 +372,7 @@ pub(crate) fn fetch_all<R: Rows>(
         q.now.entry.now.plan) }
     requires roles { q.now.roles.now ≡
         roles_of q.now.entry.now.base q.now.vars.now q.now.entry.now.tree.places }
+    requires used { AreUsed q.now.entry.now q.now.root.now q.now.used.now }
     ensures serves { (a : R.At) (c : CatalogParts)
         → R.serves rows.old a c → R.serves rows.new a c }
     ensures serves_no_more { (a : R.At) (c : CatalogParts)

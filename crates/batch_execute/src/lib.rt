@@ -16,6 +16,7 @@ mod ready;
 mod role;
 mod roles;
 mod trees;
+mod used;
 mod values;
 mod visiting;
 mod way;

@@ -20,13 +20,15 @@ pub struct Spot<'a> {
 pub fn tree_on<'a>(trail: &[Spot<'a>], step: u32) -> Option<&'a RowTree>
     ensures { option_map (λ t. t.now) result ≡ spec.tree_on (trail_of trail.now) step }
 {
-    let mut last = None;
-    for spot in trail {
+    let mut left = trail.len();
+    'left: while left > 0 {
+        left -= 1;
+        let spot = trail[left];
         if spot.step == step {
-            last = Some(spot.tree);
+            return Some(spot.tree);
         }
     }
-    last
+    None
 }
 
 fn first_found(fetched: Option<&Fetched>) -> Option<&Found>

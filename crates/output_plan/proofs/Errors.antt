@@ -13,10 +13,10 @@ use Rattle.stmt_tree.specs.declared.found.RowTree.{RowTree}
 use Rattle.place_tree.specs.declared.answer.Leaf.{Leaf}
 use Rattle.batch_execute.specs.declared.role.Role.{Role}
 use Rattle.batch_execute.specs.declared.role.Role.TheVariants.{Failed, OfList, OfRow, Each, Same, OfLeaf}
+use Rattle.batch_execute.specs.Nexts.{next_from}
 use Rattle.batch_execute.specs.Reading.{Trail, one_tree, shown_by}
 use Rattle.output_plan.specs.Failures.{object_errors, objects_errors, answer_errors, is_failed}
 use Rattle.output_plan.specs.Laid.{Laid, role_or, show_or, type_or, shown_of, shown_on}
-use Rattle.output_plan.specs.Layout.{next_from}
 use Rattle.output_plan.specs.Printed.{members_at}
 use Rattle.output_plan.proofs.Members.{when_true, when_false, skipped}
 

@@ -9,11 +9,12 @@ use Rattle.place_tree.specs.Fold.{below, same_place, when}
 use Rattle.place_tree.specs.Response.{Value, Members, member, value_of, more_members, value_text}
 use Rattle.place_tree.proofs.Folds.{same_place_true}
 use Rattle.place_tree.proofs.Lists.{drop_next}
+use Rattle.batch_execute.specs.Nexts.{next_from, next_or}
 use Rattle.batch_execute.specs.Reading.{Trail}
 use Rattle.output_plan.specs.Laid.{Laid, shown_on}
 use Rattle.output_plan.specs.declared.fault.PrintFault.{PrintFault}
-use Rattle.output_plan.specs.Layout.{IsLaidOut, next_from}
-use Rattle.output_plan.specs.Leaves.{Stops, next_or, text_or}
+use Rattle.output_plan.specs.Layout.{IsLaidOut}
+use Rattle.output_plan.specs.Leaves.{Stops, text_or}
 use Rattle.output_plan.specs.Printed.{members_left, members_at, answer_text, member_text}
 use Rattle.output_plan.proofs.Objects.{value_same, stops_front}
 use Rattle.output_plan.proofs.Tables.{label_is, next_is}

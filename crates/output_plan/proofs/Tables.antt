@@ -11,11 +11,12 @@ use Rattle.place_tree.specs.Fold.{same_place}
 use Rattle.plan_steps.specs.declared.plan.OutPlace.{OutPlace}
 use Rattle.plan_steps.specs.declared.plan.Step.{Step}
 use Rattle.plan_steps.specs.Named.{fetch_in, step_for}
+use Rattle.batch_execute.specs.Nexts.{next_from, nexts_from, next_or}
 use Rattle.batch_execute.specs.Roles.{role_of, roles_from, roles_of, steps_from, steps_of}
 use Rattle.batch_execute.specs.Ways.{way_in, way_of, ways_from, ways_of}
 use Rattle.output_plan.specs.Laid.{way_or, role_or, show_or}
-use Rattle.output_plan.specs.Layout.{IsLaidOut, label_of, next_from, nexts_from}
-use Rattle.output_plan.specs.Leaves.{next_or, text_or}
+use Rattle.output_plan.specs.Layout.{IsLaidOut, label_of}
+use Rattle.output_plan.specs.Leaves.{text_or}
 
 pub get_map : {A B : Type 0} (f : A → B) (xs : List A) (i : ℕ) → slice_get (map f xs) i ≡ option_map f (slice_get xs i)
 get_map f [] i = refl

@@ -1,5 +1,5 @@
 -- Why a text is not appended, and what is appended.
-use Rattle.std.specs.Prelude.{◌<◌, ℕ, ◌+◌, List, [], Option, Some, None, length, Result, Ok, Err, ⊤}
+use Rattle.std.specs.Prelude.{◌<◌, ℕ, List, [], Option, Some, None, length, Result, Ok, Err, ⊤}
 use Rattle.pg_base.specs.Limits.{most_response_bytes}
 use Rattle.output_plan.specs.declared.fault.PrintFault.{PrintFault}
 use Rattle.output_plan.specs.declared.fault.PrintFault.TheVariants as fault
@@ -17,7 +17,3 @@ StopsFor text (Err e) = Stops e text
 abbrev pub text_or : Option (List ℕ) → List ℕ
 text_or None = []
 text_or (Some text) = text
-
-abbrev pub next_or : ℕ → Option ℕ → ℕ
-next_or i None = i + 1
-next_or i (Some next) = next

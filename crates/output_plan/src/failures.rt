@@ -9,11 +9,14 @@ ghost use Rattle.batch_execute.specs.Trails.{trail_of};
 ghost use Rattle.output_plan.specs.Failures as spec;
 ghost use Rattle.output_plan.specs.Laid as laid;
 ghost use Rattle.output_plan.specs.Layout.{IsLaidOut};
+ghost use Rattle.output_plan.specs.Leaves.{StopsFor};
 ghost use Rattle.output_plan.specs.Printed.{members_at};
 
-use crate::reader::{Reader, first_tree, found_there, is_below, next_of, rows_found, show_at};
+use crate::fault::PrintFault;
+use crate::reader::{Reader, first_tree, found_there, rows_found, show_at};
 use crate::walking::push_spot;
-use batch_execute::{Role, Spot};
+use batch_execute::{Role, Spot, is_below, next_of};
+use pg_base::limits::MOST_RESPONSE_BYTES;
 use pg_base::{Memory, Text};
 use place_tree::Place;
 use response_text::{Part, put_after, put_before, put_error};
@@ -56,15 +59,20 @@ fn put_failure(
     message: &Text,
     place: &Place,
     path: &[Part<'_>],
-) -> Result<bool, Memory>
+) -> Result<bool, PrintFault>
     requires { paths.AreBelow (2 ^ 63) path.now }
-    ensures { IfOk result (λ after. (rest : List FieldError)
+    ensures text { IfOk result (λ after. (rest : List FieldError)
         → out.new.items ++ paths.errors_left after rest
         ≡ out.old.items ++ paths.errors_left some (spec.error_here message.now place.now.pos
         (map paths.part_of path.now) ∷ rest)) }
+    ensures long { StopsFor (out.old.items ++ paths.errors_left some (spec.error_here message.now
+        place.now.pos (map paths.part_of path.now) ∷ [])) result }
 {
     put_before(out, some)?;
     put_error(out, message, place.pos, path)?;
+    if out.len() > MOST_RESPONSE_BYTES {
+        return Err(PrintFault::TooLong);
+    }
     Ok(true)
 }
 
@@ -79,7 +87,7 @@ fn fail_members<'a>(
     path: &mut Vec<Part<'a>>,
     some: bool,
     out: &mut Vec<u8>,
-) -> Result<bool, Memory>
+) -> Result<bool, PrintFault>
     requires few { length r.now.places.now < 2 ^ 32 }
     requires laid_out { IsLaidOut r.now.places.now r.now.labels.now r.now.nexts.now }
     requires short { paths.AreBelow (2 ^ 63) path.old.items }
@@ -90,6 +98,10 @@ fn fail_members<'a>(
         ≡ out.old.items ++ paths.errors_left some (member_errors
         (members_at (laid.laid_of r.now) (drop from r.now.places.now) from parent
         (trail_of trail.old.items)) (map paths.part_of path.old.items) ++ rest)) }
+    ensures long { StopsFor (out.old.items
+        ++ paths.errors_left some (member_errors
+        (members_at (laid.laid_of r.now) (drop from r.now.places.now) from parent
+        (trail_of trail.old.items)) (map paths.part_of path.old.items))) result }
 {
     let mut written = some;
     let mut i = from;
@@ -98,7 +110,10 @@ fn fail_members<'a>(
             i += 1;
             continue;
         }
-        written = fail_member(r, i, trail, path, written, out)?;
+        match fail_member(r, i, trail, path, written, out) {
+            Ok(after) => written = after,
+            Err(fault) => return Err(fault),
+        }
         i = next_of(r.nexts, i);
     }
     Ok(written)
@@ -112,7 +127,7 @@ fn fail_member<'a>(
     path: &mut Vec<Part<'a>>,
     some: bool,
     out: &mut Vec<u8>,
-) -> Result<bool, Memory>
+) -> Result<bool, PrintFault>
     requires few { length r.now.places.now < 2 ^ 32 }
     requires laid_out { IsLaidOut r.now.places.now r.now.labels.now r.now.nexts.now }
     requires here { i < length r.now.places.now }
@@ -125,11 +140,20 @@ fn fail_member<'a>(
         (drop (i + 1) r.now.places.now) i (spec.pos_at r.now.places.now i)
         (laid.shown_on (laid.laid_of r.now) i (trail_of trail.old.items))
         (map paths.part_of path.old.items ++ key (spec.key_at r.now.places.now i) ∷ []) ++ rest)) }
+    ensures long { StopsFor (out.old.items
+        ++ paths.errors_left some (spec.answer_errors (laid.laid_of r.now)
+        (drop (i + 1) r.now.places.now) i (spec.pos_at r.now.places.now i)
+        (laid.shown_on (laid.laid_of r.now) i (trail_of trail.old.items))
+        (map paths.part_of path.old.items ++ key (spec.key_at r.now.places.now i) ∷ []))) result }
 {
     push_part(path, Part::Key(&r.places[i].key))?;
-    let after = fail_place(r, i, trail, path, some, out)?;
-    let _ = path.pop();
-    Ok(after)
+    match fail_place(r, i, trail, path, some, out) {
+        Ok(after) => {
+            let _ = path.pop();
+            Ok(after)
+        }
+        Err(fault) => Err(fault),
+    }
 }
 
 /// Appends the errors of what the place at i shows.
@@ -141,7 +165,7 @@ fn fail_place<'a>(
     path: &mut Vec<Part<'a>>,
     some: bool,
     out: &mut Vec<u8>,
-) -> Result<bool, Memory>
+) -> Result<bool, PrintFault>
     requires few { length r.now.places.now < 2 ^ 32 }
     requires laid_out { IsLaidOut r.now.places.now r.now.labels.now r.now.nexts.now }
     requires here { i < length r.now.places.now }
@@ -154,6 +178,11 @@ fn fail_place<'a>(
         (drop (i + 1) r.now.places.now) i (spec.pos_at r.now.places.now i)
         (laid.shown_on (laid.laid_of r.now) i (trail_of trail.old.items))
         (map paths.part_of path.old.items) ++ rest)) }
+    ensures long { StopsFor (out.old.items
+        ++ paths.errors_left some (spec.answer_errors (laid.laid_of r.now)
+        (drop (i + 1) r.now.places.now) i (spec.pos_at r.now.places.now i)
+        (laid.shown_on (laid.laid_of r.now) i (trail_of trail.old.items))
+        (map paths.part_of path.old.items))) result }
 {
     let Some(step) = show_at(r, i) else {
         return Ok(some);
@@ -174,7 +203,7 @@ fn fail_role<'a>(
     path: &mut Vec<Part<'a>>,
     some: bool,
     out: &mut Vec<u8>,
-) -> Result<bool, Memory>
+) -> Result<bool, PrintFault>
     requires few { length r.now.places.now < 2 ^ 32 }
     requires laid_out { IsLaidOut r.now.places.now r.now.labels.now r.now.nexts.now }
     requires here { i < length r.now.places.now }
@@ -188,6 +217,12 @@ fn fail_role<'a>(
         (laid.shown_of (laid.laid_of r.now) role.now (trail_of trail.old.items)
         (laid.type_or (slice_get r.now.types.now i)) (Some step))
         (map paths.part_of path.old.items) ++ rest)) }
+    ensures long { StopsFor (out.old.items
+        ++ paths.errors_left some (spec.answer_errors (laid.laid_of r.now)
+        (drop (i + 1) r.now.places.now) i (spec.pos_at r.now.places.now i)
+        (laid.shown_of (laid.laid_of r.now) role.now (trail_of trail.old.items)
+        (laid.type_or (slice_get r.now.types.now i)) (Some step))
+        (map paths.part_of path.old.items))) result }
 {
     match role {
         Role::Failed(message) => put_failure(out, some, message, &r.places[i], path.as_slice()),
@@ -208,7 +243,7 @@ fn fail_row<'a>(
     path: &mut Vec<Part<'a>>,
     some: bool,
     out: &mut Vec<u8>,
-) -> Result<bool, Memory>
+) -> Result<bool, PrintFault>
     requires few { length r.now.places.now < 2 ^ 32 }
     requires laid_out { IsLaidOut r.now.places.now r.now.labels.now r.now.nexts.now }
     requires here { i < length r.now.places.now }
@@ -221,6 +256,11 @@ fn fail_row<'a>(
         (drop (i + 1) r.now.places.now) i (spec.pos_at r.now.places.now i)
         (laid.row_shown (laid.laid_of r.now) (trail_of trail.old.items) step)
         (map paths.part_of path.old.items) ++ rest)) }
+    ensures long { StopsFor (out.old.items
+        ++ paths.errors_left some (spec.answer_errors (laid.laid_of r.now)
+        (drop (i + 1) r.now.places.now) i (spec.pos_at r.now.places.now i)
+        (laid.row_shown (laid.laid_of r.now) (trail_of trail.old.items) step)
+        (map paths.part_of path.old.items))) result }
 {
     let rows = rows_found(found_there(r, trail.as_slice(), step));
     let Some(tree) = first_tree(rows) else {
@@ -238,7 +278,7 @@ fn fail_each<'a>(
     path: &mut Vec<Part<'a>>,
     some: bool,
     out: &mut Vec<u8>,
-) -> Result<bool, Memory>
+) -> Result<bool, PrintFault>
     requires few { length r.now.places.now < 2 ^ 32 }
     requires laid_out { IsLaidOut r.now.places.now r.now.labels.now r.now.nexts.now }
     requires here { i < length r.now.places.now }
@@ -251,11 +291,19 @@ fn fail_each<'a>(
         (drop (i + 1) r.now.places.now) i 0
         (laid.rows_shown (laid.laid_of r.now) (trail_of trail.old.items) step)
         (map paths.part_of path.old.items) ++ rest)) }
+    ensures long { StopsFor (out.old.items
+        ++ paths.errors_left some (spec.objects_errors (laid.laid_of r.now)
+        (drop (i + 1) r.now.places.now) i 0
+        (laid.rows_shown (laid.laid_of r.now) (trail_of trail.old.items) step)
+        (map paths.part_of path.old.items))) result }
 {
     let rows = rows_found(found_there(r, trail.as_slice(), step));
     let mut written = some;
     for k in 0..rows.len() {
-        written = fail_item(r, i, step, k, &rows[k], trail, path, written, out)?;
+        match fail_item(r, i, step, k, &rows[k], trail, path, written, out) {
+            Ok(after) => written = after,
+            Err(fault) => return Err(fault),
+        }
     }
     Ok(written)
 }
@@ -272,7 +320,7 @@ fn fail_item<'a>(
     path: &mut Vec<Part<'a>>,
     some: bool,
     out: &mut Vec<u8>,
-) -> Result<bool, Memory>
+) -> Result<bool, PrintFault>
     requires few { length r.now.places.now < 2 ^ 32 }
     requires laid_out { IsLaidOut r.now.places.now r.now.labels.now r.now.nexts.now }
     requires here { i < length r.now.places.now }
@@ -285,11 +333,19 @@ fn fail_item<'a>(
         ≡ out.old.items ++ paths.errors_left some (spec.object_errors (laid.laid_of r.now)
         (drop (i + 1) r.now.places.now) i (reading.onto step (trail_of trail.old.items) tree.now)
         (map paths.part_of path.old.items ++ index k ∷ []) ++ rest)) }
+    ensures long { StopsFor (out.old.items
+        ++ paths.errors_left some (spec.object_errors (laid.laid_of r.now)
+        (drop (i + 1) r.now.places.now) i (reading.onto step (trail_of trail.old.items) tree.now)
+        (map paths.part_of path.old.items ++ index k ∷ []))) result }
 {
     push_part(path, Part::Index(k as u64))?;
-    let after = fail_tree(r, i, step, tree, trail, path, some, out)?;
-    let _ = path.pop();
-    Ok(after)
+    match fail_tree(r, i, step, tree, trail, path, some, out) {
+        Ok(after) => {
+            let _ = path.pop();
+            Ok(after)
+        }
+        Err(fault) => Err(fault),
+    }
 }
 
 /// Appends the errors of the object of the place at i, at a row further.
@@ -303,7 +359,7 @@ fn fail_tree<'a>(
     path: &mut Vec<Part<'a>>,
     some: bool,
     out: &mut Vec<u8>,
-) -> Result<bool, Memory>
+) -> Result<bool, PrintFault>
     requires few { length r.now.places.now < 2 ^ 32 }
     requires laid_out { IsLaidOut r.now.places.now r.now.labels.now r.now.nexts.now }
     requires here { i < length r.now.places.now }
@@ -315,11 +371,19 @@ fn fail_tree<'a>(
         ≡ out.old.items ++ paths.errors_left some (spec.object_errors (laid.laid_of r.now)
         (drop (i + 1) r.now.places.now) i (reading.onto step (trail_of trail.old.items) tree.now)
         (map paths.part_of path.old.items) ++ rest)) }
+    ensures long { StopsFor (out.old.items
+        ++ paths.errors_left some (spec.object_errors (laid.laid_of r.now)
+        (drop (i + 1) r.now.places.now) i (reading.onto step (trail_of trail.old.items) tree.now)
+        (map paths.part_of path.old.items))) result }
 {
     push_spot(trail, Spot { step, tree })?;
-    let after = fail_object(r, i, trail, path, some, out)?;
-    let _ = trail.pop();
-    Ok(after)
+    match fail_object(r, i, trail, path, some, out) {
+        Ok(after) => {
+            let _ = trail.pop();
+            Ok(after)
+        }
+        Err(fault) => Err(fault),
+    }
 }
 
 #[cycle(fail)]
@@ -330,7 +394,7 @@ fn fail_object<'a>(
     path: &mut Vec<Part<'a>>,
     some: bool,
     out: &mut Vec<u8>,
-) -> Result<bool, Memory>
+) -> Result<bool, PrintFault>
     requires few { length r.now.places.now < 2 ^ 32 }
     requires laid_out { IsLaidOut r.now.places.now r.now.labels.now r.now.nexts.now }
     requires here { i < length r.now.places.now }
@@ -342,29 +406,45 @@ fn fail_object<'a>(
         ≡ out.old.items ++ paths.errors_left some (spec.object_errors (laid.laid_of r.now)
         (drop (i + 1) r.now.places.now) i (trail_of trail.old.items)
         (map paths.part_of path.old.items) ++ rest)) }
+    ensures long { StopsFor (out.old.items
+        ++ paths.errors_left some (spec.object_errors (laid.laid_of r.now)
+        (drop (i + 1) r.now.places.now) i (trail_of trail.old.items)
+        (map paths.part_of path.old.items))) result }
 {
     fail_members(r, i + 1, Some(i as u32), trail, path, some, out)
 }
 
-fn put_all(alloc: Global, r: &Reader<'_>, out: &mut Vec<u8>) -> Result<(), Memory>
+fn put_all(alloc: Global, r: &Reader<'_>, out: &mut Vec<u8>) -> Result<(), PrintFault>
     requires few { length r.now.places.now < 2 ^ 32 }
     requires laid_out { IsLaidOut r.now.places.now r.now.labels.now r.now.nexts.now }
-    ensures { OnOk result (out.new.items ≡ out.old.items ++ errors_text (member_errors
+    ensures text { OnOk result (out.new.items ≡ out.old.items ++ errors_text (member_errors
         (members_at (laid.laid_of r.now) r.now.places.now 0 None []) [])) }
+    ensures long { StopsFor (out.old.items ++ errors_text (member_errors
+        (members_at (laid.laid_of r.now) r.now.places.now 0 None []) [])) result }
 {
     let mut trail = Vec::new(alloc);
     let mut path = Vec::new(alloc);
-    let some = fail_members(r, 0, None, &mut trail, &mut path, false, out)?;
-    put_after(out, some)?;
-    Ok(())
+    match fail_members(r, 0, None, &mut trail, &mut path, false, out) {
+        Ok(some) => {
+            put_after(out, some)?;
+            Ok(())
+        }
+        Err(fault) => Err(fault),
+    }
 }
 
 /// Appends the member `errors` of the response and a comma, where a place fails.
-pub(crate) fn put_failures(alloc: Global, r: &Reader<'_>, out: &mut Vec<u8>) -> Result<(), Memory>
+pub(crate) fn put_failures(
+    alloc: Global,
+    r: &Reader<'_>,
+    out: &mut Vec<u8>,
+) -> Result<(), PrintFault>
     requires few { length r.now.places.now < 2 ^ 32 }
     requires laid_out { IsLaidOut r.now.places.now r.now.labels.now r.now.nexts.now }
-    ensures { OnOk result (out.new.items ≡ out.old.items ++ errors_text (member_errors
+    ensures text { OnOk result (out.new.items ≡ out.old.items ++ errors_text (member_errors
         (members_at (laid.laid_of r.now) r.now.places.now 0 None []) [])) }
+    ensures long { StopsFor (out.old.items ++ errors_text (member_errors
+        (members_at (laid.laid_of r.now) r.now.places.now 0 None []) [])) result }
 {
     if has_failed(r.roles) {
         return put_all(alloc, r, out);

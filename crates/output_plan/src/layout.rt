@@ -1,13 +1,12 @@
 //! What is laid out of a plan before its values are printed.
 
-ghost use Rattle.std.specs.Prelude.{◌≡◌, ◌+◌, ◌++◌, ◌≤◌, IfOk, Some, drop, length, map, option_map, slice_get};
+ghost use Rattle.std.specs.Prelude.{◌≡◌, ◌++◌, IfOk, Some, map, option_map, slice_get};
 ghost use Rattle.std.specs.String.{string_bytes};
 ghost use Rattle.pg_base.specs.Naming.{called, column_called};
 ghost use Rattle.batch_execute.specs.Reading.{type_of as type_of_place};
 ghost use Rattle.plan_steps.specs.Values as values;
 ghost use Rattle.output_plan.specs.Layout as spec;
 
-use crate::reader::is_below;
 use inflection::enum_case;
 use json_out::put_key;
 use list_execution::{columns_of, field_of};
@@ -38,30 +37,6 @@ pub(crate) fn labels_of(alloc: Global, places: &[Place]) -> Result<Items<Blob>, 
         labels.push(label_of(alloc, place)?)?;
     }
     Ok(labels)
-}
-
-/// The first place from a number on that stands below the parent, or else the end.
-fn next_from(places: &[Place], from: usize, parent: Option<u32>) -> usize
-    requires { from ≤ length places.now }
-    ensures { result ≡ spec.next_from parent from (drop from places.now) }
-{
-    for i in from..places.len() {
-        if is_below(&places[i], parent) {
-            return i;
-        }
-    }
-    places.len()
-}
-
-/// The next place below the same one, of each place.
-pub(crate) fn nexts_of(alloc: Global, places: &[Place]) -> Result<Items<usize>, Memory>
-    ensures { IfOk result (λ nexts. nexts ≡ spec.nexts_from 0 places.now) }
-{
-    let mut nexts = Items::new(alloc);
-    for i in 0..places.len() {
-        nexts.push(next_from(places, i + 1, places[i].parent))?;
-    }
-    Ok(nexts)
 }
 
 fn type_of(schema: &Schema, place: &Place) -> TypeRef

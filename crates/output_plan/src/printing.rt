@@ -19,24 +19,29 @@ ghost use Rattle.output_plan.specs.Responses as spec;
 
 use crate::failures::put_failures;
 use crate::fault::PrintFault;
-use crate::layout::{all_names, labels_of, nexts_of, types_of};
+use crate::layout::{all_names, labels_of, types_of};
 use crate::reader::Reader;
-use crate::walking::put_members;
-use batch_execute::{Values, Way, steps_of, ways_of};
+use crate::walking::{put_byte, put_members};
+use batch_execute::{Values, Way, nexts_of, steps_of, ways_of};
 use pg_base::limits::MOST_RESPONSE_BYTES;
-use pg_base::{Blob, Memory, Text, TypeRef, Vars};
+use pg_base::{Blob, Text, TypeRef, Vars};
 use plan_steps::Entry;
 use sqlite_items::Items;
 use std::alloc::Global;
 
-fn put_front(alloc: Global, r: &Reader<'_>, out: &mut Vec<u8>) -> Result<(), Memory>
+fn put_front(alloc: Global, r: &Reader<'_>, out: &mut Vec<u8>) -> Result<(), PrintFault>
     requires few { length r.now.places.now < 2 ^ 32 }
     requires laid_out { IsLaidOut r.now.places.now r.now.labels.now r.now.nexts.now }
-    ensures { OnOk result (out.new.items ≡ out.old.items
+    ensures text { OnOk result (out.new.items ≡ out.old.items
         ++ spec.front_text (members_at (laid_of r.now) r.now.places.now 0 None [])) }
+    ensures long { StopsFor (out.old.items
+        ++ spec.front_text (members_at (laid_of r.now) r.now.places.now 0 None [])) result }
 {
-    out.push(b'{')?;
-    put_failures(alloc, r, out)?;
+    put_byte(out, b'{')?;
+    match put_failures(alloc, r, out) {
+        Ok(()) => {}
+        Err(fault) => return Err(fault),
+    }
     out.extend_from_slice(b"\"data\":{")?;
     Ok(())
 }
@@ -50,7 +55,10 @@ fn put_response(alloc: Global, r: &Reader<'_>, out: &mut Vec<u8>) -> Result<(), 
     ensures long { StopsFor (out.old.items
         ++ spec.whole_text (members_at (laid_of r.now) r.now.places.now 0 None [])) result }
 {
-    put_front(alloc, r, out)?;
+    match put_front(alloc, r, out) {
+        Ok(()) => {}
+        Err(fault) => return Err(fault),
+    }
     let mut trail = Vec::new(alloc);
     match put_members(alloc, r, 0, None, &mut trail, out) {
         Ok(()) => {}

@@ -1,7 +1,6 @@
 //! What is read while values are printed.
 
-ghost use Rattle.std.specs.Prelude.{◌≡◌, ◌+◌, ◌^◌, ◌<◌, option_map, slice_get};
-ghost use Rattle.place_tree.specs.Fold.{same_place};
+ghost use Rattle.std.specs.Prelude.{◌≡◌, option_map, slice_get};
 ghost use Rattle.plan_steps.specs.Named as named;
 ghost use Rattle.stmt_tree.specs.declared.found.Found.TheViews.{out-Found};
 ghost use Rattle.batch_execute.specs.Reading as reading;
@@ -35,18 +34,6 @@ pub(crate) struct Reader<'a> {
     pub nexts: &'a [usize],
 }
 
-pub(crate) fn is_below(place: &Place, parent: Option<u32>) -> bool
-    ensures { result ≡ same_place place.now.parent parent }
-{
-    match place.parent {
-        None => parent.is_none(),
-        Some(above) => match parent {
-            None => false,
-            Some(other) => above == other,
-        },
-    }
-}
-
 // ---- places
 
 /// The step that a place shows.
@@ -70,17 +57,6 @@ pub(crate) fn type_at(types: &[TypeRef], i: usize) -> TypeRef
             not_null: false,
         },
         Some(ty) => *ty,
-    }
-}
-
-/// The next place below the same one.
-pub(crate) fn next_of(nexts: &[usize], i: usize) -> usize
-    requires { i + 1 < 2 ^ 64 }
-    ensures { result ≡ leaves.next_or i (slice_get nexts.now i) }
-{
-    match nexts.get(i) {
-        None => i + 1,
-        Some(next) => *next,
     }
 }
 

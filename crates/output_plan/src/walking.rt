@@ -12,18 +12,16 @@ ghost use Rattle.output_plan.specs.Printed as spec;
 
 use crate::fault::PrintFault;
 use crate::leaves::put_null;
-use crate::reader::{
-    Reader, first_tree, found_there, is_below, label_at, next_of, rows_found, show_at, type_at,
-};
+use crate::reader::{Reader, first_tree, found_there, label_at, rows_found, show_at, type_at};
 use crate::steps::put_value;
-use batch_execute::{Role, Spot};
+use batch_execute::{Role, Spot, is_below, next_of};
 use pg_base::Memory;
 use pg_base::limits::MOST_RESPONSE_BYTES;
 use sqlite_items::at;
 use std::alloc::Global;
 use stmt_tree::RowTree;
 
-fn put_byte(out: &mut Vec<u8>, byte: u8) -> Result<(), Memory>
+pub(crate) fn put_byte(out: &mut Vec<u8>, byte: u8) -> Result<(), Memory>
     ensures { OnOk result (out.new.items ≡ out.old.items ++ byte ∷ []) }
 {
     out.push(byte)?;

@@ -1,9 +1,13 @@
-use Rattle.std.proofs.Common.{◌≡◌, drop}
-use Rattle.std.specs.Prelude.{option_map}
-use Rattle.plan_steps.specs.Values.{later}
+use Rattle.std.proofs.Common.{◌≡◌, ◌≤◌, None, drop, length}
 use Rattle.batch_execute.specs.Reading as spec
 use Rattle.batch_execute.specs.Trails.{trail_of}
 use Rattle.batch_execute.proofs.reading.tree_on.Given as goal
 
-abbrev pub invariant-loop-spot : goal.invariant-loop-spot
-invariant-loop-spot l = later (spec.tree_on (trail_of (drop l.spot-index l.trail)) l.step) (option_map (λ t. t.now) l.last) ≡ spec.tree_on (trail_of l.trail) l.step
+abbrev pub invariant-left : goal.invariant-left
+invariant-left l = record {
+  within : l.left ≤ length l.trail;
+  none : spec.tree_on (trail_of (drop l.left l.trail)) l.step ≡ None;
+}
+
+abbrev pub decreases-left : goal.decreases-left
+decreases-left l = l.left

@@ -1,6 +1,0 @@
-use Rattle.std.proofs.Common.{◌≡◌, drop}
-use Rattle.output_plan.specs.Layout as spec
-use Rattle.output_plan.proofs.layout.next_from.Given as goal
-
-abbrev pub invariant-loop-i : goal.invariant-loop-i
-invariant-loop-i l = spec.next_from l.parent l.i (drop l.i l.places) ≡ spec.next_from l.parent l.from (drop l.from l.places)
