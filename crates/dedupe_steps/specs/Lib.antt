@@ -1,0 +1,11 @@
+pub mod ArgWords
+pub mod Keys
+pub mod Laws
+pub mod Made
+pub mod Numbered
+pub mod Numbering
+pub mod Orders
+pub mod Quotient
+pub mod Roots
+pub mod Sights
+pub mod Words

@@ -1,0 +1,4 @@
+//! Inlined plans are ready to be run.
+#![tactic(auto)]
+
+pub mod laws;
