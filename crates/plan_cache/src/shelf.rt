@@ -91,6 +91,11 @@ impl<E: Filed + Drop> Shelf<E> {
             (λ e. spec.key_of (E.text e) (E.operation e) (E.constraints e))
             (spec.asked_for text.now (option_map (λ name. name.now) operation.entry) vars.now)
             history (option_map arc_value found)) }
+        // The same of the plans that serve.
+        ensures oldest { IfOk result (λ found. spec.IsOldest
+            (λ e. spec.key_of (E.text e) (E.operation e) (E.constraints e))
+            (spec.asked_for text.now (option_map (λ name. name.now) operation.entry) vars.now)
+            self.now.entries (option_map arc_value found)) }
         // What is found is a plan of the shelf's base.
         ensures base { IfOk result (λ found. IfSome found
             (λ e. E.base (arc_value e) ≡ self.now.base)) }

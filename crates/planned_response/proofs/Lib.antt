@@ -1,2 +1,1 @@
-pub mod FewSent
-pub mod TreesOver
+pub mod FewNeeded

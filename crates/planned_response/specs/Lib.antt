@@ -1,4 +1,2 @@
-pub mod RowFields
 pub mod Plans
-pub mod Laws
 pub mod Responses

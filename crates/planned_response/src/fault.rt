@@ -10,3 +10,12 @@ pub enum RespondFault {
     /// Memory ran out.
     Memory,
 }
+
+/// Memory ran out while a plan was made.
+#[derive(Clone, Copy, Debug, PartialEq, Eq, Drop)]
+pub enum PlanFault {
+    /// Before it was counted.
+    Uncounted,
+    /// After that: the plan was drafted, and dropped.
+    Counted,
+}

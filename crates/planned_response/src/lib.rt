@@ -2,11 +2,11 @@
 #![tactic(auto)]
 
 mod fault;
-pub mod laws;
 mod planning;
 mod responding;
 mod running;
 
-pub use fault::RespondFault;
+pub use fault::{PlanFault, RespondFault};
+pub use planning::plan_of;
 pub use responding::respond;
 pub use running::respond_with;

@@ -4,22 +4,22 @@ ghost use Rattle.std.specs.Prelude.{◌≡◌, ◌+◌, ◌≤◌, length};
 ghost use Rattle.std.specs.Arc.{arc_value};
 ghost use Rattle.pg_base.specs.Catalog.{CatalogParts};
 ghost use Rattle.pg_base.specs.Limits.{most_places};
+ghost use Rattle.place_tree.specs.Needs.{needed_statements};
 ghost use Rattle.rel_model.specs.declared.tables.Tables.{Tables};
 ghost use Rattle.stmt_tree.specs.Form.{Rose};
 ghost use Rattle.plan_steps.specs.declared.plan.Root.TheVariants as root;
 ghost use Rattle.plan_steps.specs.Sound.{IsRootOf};
 ghost use Rattle.step_plan.specs.Planned.{IsPlannable};
 ghost use Rattle.planned_response.specs.Responses.{AreTold, CountsPlan, GetsFew, IsStoreFault, RespondsOver};
-ghost use Rattle.planned_response.specs.RowFields.{row_fields};
 
-use crate::fault::RespondFault;
-use crate::planning::entry_of;
+use crate::fault::{PlanFault, RespondFault};
+use crate::planning::plan_of;
 use crate::running::respond_with;
 use pg_base::{Base, Blob, Vars};
 use place_tree::Tree;
 use plan_constraints::laws::noted_hold_at_home;
 use plan_steps::Steps;
-use std::alloc::{AllocError, Global};
+use std::alloc::Global;
 use std::sync::Arc;
 use std::sync::ledger::Ledger;
 use stmt_tree::Rows;
@@ -48,8 +48,9 @@ pub fn respond<R: Rows, L: Ledger>(
         → R.serves rows.new a c → R.serves rows.old a c }
     ensures told { (a : R.At) → R.tables_of rows.new a ≡ R.tables_of rows.old a }
 
-    // No more statements than row fields, over any store.
-    ensures sent { R.sent rows.new ≤ R.sent rows.old + row_fields (arc_value base.now) tree }
+    // No more statements than are needed, over any store.
+    ensures sent { R.sent rows.new ≤ R.sent rows.old
+        + needed_statements (arc_value base.now) vars.now tree }
 
     // Over told tables the text of execution, or that this is too large.
     ensures response { (tables : Tables)
@@ -63,8 +64,9 @@ pub fn respond<R: Rows, L: Ledger>(
     ensures planned { CountsPlan plans.old plans.new result }
 {
     noted_hold_at_home();
-    match entry_of(alloc, base, tree, vars, plans) {
+    match plan_of(alloc, base, tree, vars, plans) {
         Ok(entry) => respond_with(alloc, &entry, vars, at, rows),
-        Err(AllocError) => Err(RespondFault::Memory),
+        Err(PlanFault::Uncounted) => Err(RespondFault::Memory),
+        Err(PlanFault::Counted) => Err(RespondFault::Memory),
     }
 }

@@ -1,6 +1,6 @@
 //! A plan that is ready, run and printed.
 
-ghost use Rattle.std.specs.Prelude.{◌≡◌, ◌+◌, ◌<◌, ◌≤◌, ◌^◌, length};
+ghost use Rattle.std.specs.Prelude.{◌≡◌, ◌+◌, ◌<◌, ◌≤◌, ◌^◌, OnOk, length};
 ghost use Rattle.pg_base.specs.Catalog.{CatalogParts};
 ghost use Rattle.pg_base.specs.Limits.{most_visited_rows};
 ghost use Rattle.rel_model.specs.declared.tables.Tables.{Tables};
@@ -10,7 +10,7 @@ ghost use Rattle.plan_steps.specs.declared.plan.Root.TheVariants as root;
 ghost use Rattle.plan_steps.specs.Fitting.{FitTree};
 ghost use Rattle.plan_steps.specs.Sent.{sent_count};
 ghost use Rattle.plan_steps.specs.Sound.{IsRootOf};
-ghost use Rattle.batch_execute.specs.Execution.{AreValues};
+ghost use Rattle.batch_execute.specs.Execution.{AreValues, SendsAsked};
 ghost use Rattle.batch_execute.specs.Roles.{roles_of};
 ghost use Rattle.planned_response.specs.Responses.{AreTold, GetsFew, IsStoreFault, RespondsOver};
 
@@ -64,6 +64,11 @@ pub fn respond_with<R: Rows>(
     ensures told { (a : R.At) → R.tables_of rows.new a ≡ R.tables_of rows.old a }
     ensures sent { R.sent rows.new ≤ R.sent rows.old
         + sent_count ready.now.tree ready.now.plan root.Query }
+    // Over told tables a text has taken exactly one statement for each asked step.
+    ensures asked { (tables : Tables)
+        → AreTold ready.now.base.catalog (R.tables_of rows.old at.now) tables
+        → OnOk result (SendsAsked ready.now tables vars.now root.Query
+        (R.sent rows.old) (R.sent rows.new)) }
     ensures response { (tables : Tables)
         → AreTold ready.now.base.catalog (R.tables_of rows.old at.now) tables
         → RespondsOver ready.now.base tables vars.now ready.now.tree result }
