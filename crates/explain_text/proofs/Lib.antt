@@ -1,0 +1,5 @@
+mod Ended
+mod Examples
+mod Nodes
+mod Rows
+mod Shown
