@@ -29,13 +29,13 @@ use Rattle.request_core.proofs.Subscriptions.{never_subscribed}
 
 -- ---- numbers that are tested
 
-lt_true : (m n : ℕ) → m < n → nat_lt m n ≡ true
+pub lt_true : (m n : ℕ) → m < n → nat_lt m n ≡ true
 lt_true m n h = grind (arith, nat_tests, h)
 
 lt_false : (m n : ℕ) → n ≤ m → nat_lt m n ≡ false
 lt_false m n h = grind (arith, nat_tests, h)
 
-below_of : (m n : ℕ) → nat_lt m n ≡ false → n ≤ m
+pub below_of : (m n : ℕ) → nat_lt m n ≡ false → n ≤ m
 below_of m n h = grind (arith, nat_tests, h)
 
 -- ---- what a request comes to
@@ -48,7 +48,7 @@ module _ (base : BaseParts) (is : IsBase base) (catalog : IsValidCatalog base.ca
     | inr e ↦ absurd (never_subscribed base.schema read place asked.operation asked.valid asked.stands e)
   ]
 
-  may_tree : (read : Document) (place : ℕ) (vars : Vars) (asked : IsAsked base.schema read place vars) → length (tree_of base.schema read place vars).places ≤ most_places
+  pub may_tree : (read : Document) (place : ℕ) (vars : Vars) (asked : IsAsked base.schema read place vars) → length (tree_of base.schema read place vars).places ≤ most_places
       → MayRespond base (tree_of base.schema read place vars) vars
   may_tree read place vars asked few =
       let served : IsServed base read place asked.operation asked.given vars = record {
@@ -83,16 +83,16 @@ module _ (base : BaseParts) (is : IsBase base) (catalog : IsValidCatalog base.ca
 
 -- ---- answers
 
-refused_same : (a b : List ℕ) → prepared_is.Refused a ≡ prepared_is.Refused b → a ≡ b
+pub refused_same : (a b : List ℕ) → prepared_is.Refused a ≡ prepared_is.Refused b → a ≡ b
 refused_same a b e = cc
 
-never_both : (text : List ℕ) (tree : Tree) (vars : Vars) → prepared_is.Refused text ≡ prepared_is.Accepted tree vars → ⊥
+pub never_both : (text : List ℕ) (tree : Tree) (vars : Vars) → prepared_is.Refused text ≡ prepared_is.Accepted tree vars → ⊥
 never_both text tree vars e = cc
 
-same_tree : (t u : Tree) (v w : Vars) → prepared_is.Accepted t v ≡ prepared_is.Accepted u w → t ≡ u
+pub same_tree : (t u : Tree) (v w : Vars) → prepared_is.Accepted t v ≡ prepared_is.Accepted u w → t ≡ u
 same_tree t u v w e = cc
 
-same_vars : (t u : Tree) (v w : Vars) → prepared_is.Accepted t v ≡ prepared_is.Accepted u w → v ≡ w
+pub same_vars : (t u : Tree) (v w : Vars) → prepared_is.Accepted t v ≡ prepared_is.Accepted u w → v ≡ w
 same_vars t u v w e = cc
 
 module _ (base : BaseParts) (held : Option Tables) (text : List ℕ) where
@@ -156,7 +156,7 @@ module _ (base : BaseParts) (tables : Tables) (vars : Vars) (tree : Tree) where
 
 -- ---- over a store that never fails
 
-no_fault : (before now : ℕ) → before ≡ 0 → now ≡ 0 → Rose before now → ⊥
+pub no_fault : (before now : ℕ) → before ≡ 0 → now ≡ 0 → Rose before now → ⊥
 no_fault before now b n rose = omega (arith, b, n, rose)
 
 module _ (base : BaseParts) (tables : Tables) (held : Option Tables) (told : AreTold base.catalog held tables) (before now : Counts) (text : List ℕ)

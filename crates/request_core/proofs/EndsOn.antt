@@ -41,7 +41,7 @@ module _ (schema : SchemaParts) (R S : List ℕ → Type 0) (refused : (text : L
   kind_on A B coercion kind.Mutation accepted a = refused no_mutation a
   kind_on A B coercion kind.Subscription accepted a = variables_on A B coercion (λ vars. accepted vars (inr refl)) a
 
-  operation_on : (given : Data) (A B : Vars → Type 0) (found : Option Definition)
+  pub operation_on : (given : Data) (A B : Vars → Type 0) (found : Option Definition)
       → ((o : OperationDefinition) (vars : Vars) → found ≡ Some (definition.Operation o) → IsAsking o.kind → coerced schema o given ≡ Ok vars → A vars → B vars)
       → WithOperation schema given R A found → WithOperation schema given S B found
   operation_on given A B (Some (definition.Operation o)) accepted a = kind_on A B (coerced schema o given) o.kind (λ vars. accepted o vars refl) a
@@ -64,7 +64,7 @@ module _ (schema : SchemaParts) (R S : List ℕ → Type 0) (refused : (text : L
 
   module _ (request : Request) (A B : Document → ℕ → Vars → Type 0)
       (accepted : (read : Document) (place : ℕ) (vars : Vars) → IsAsked schema read place vars → A read place vars → B read place vars) where
-    body_on : (given : Data) → AfterBody schema request R A given → AfterBody schema request S B given
+    pub body_on : (given : Data) → AfterBody schema request R A given → AfterBody schema request S B given
     body_on given (inl a) = inl (record { fault = a.fault; fails = a.fails; refused = refused (read_refusal a.fault) a.refused })
     body_on given (inr a) =
         inr (record { read = a.read; reads = a.reads; next = reading_on request.operation given a.read (A a.read) (B a.read) (accepted a.read) a.next })
@@ -105,7 +105,7 @@ module _ (C : Type 0) (schema : SchemaParts) where
   reading_all operation given read (inl a) = a.refused
   reading_all operation given read (inr a) = choice_all given read (chosen read operation) a.next
 
-  body_all : (request : Request) (given : Data) → AfterBody schema request Refused (λ read at. Accepted) given → C
+  pub body_all : (request : Request) (given : Data) → AfterBody schema request Refused (λ read at. Accepted) given → C
   body_all request given (inl a) = a.refused
   body_all request given (inr a) = reading_all request.operation given a.read a.next
 

@@ -3,6 +3,11 @@ pub mod Refusals
 pub mod Request
 pub mod Answer
 pub mod Spent
+pub mod Asked
 pub mod Prepared
+pub mod House
+pub mod Reply
+pub mod Replied
+pub mod Explained
 pub mod Load
 pub mod FaultLines

@@ -8,6 +8,8 @@ use Rattle.gql_reader.specs.declared.tree.Document.{Document}
 use Rattle.place_tree.specs.declared.place.Tree.{Tree}
 use Rattle.request_core.specs.declared.preparing.Prepared.{Prepared}
 use Rattle.request_core.specs.declared.preparing.Prepared.TheVariants as prepared_is
+use Rattle.kept_responses.specs.Kept.{AsksFor}
+use Rattle.request_core.specs.Asked.{AskedParts, EndsAsked, wanted_with}
 use Rattle.request_core.specs.Refusals.{too_many}
 use Rattle.request_core.specs.Request.{Request, Ends}
 use Rattle.request_core.specs.Spent.{MayRespond}
@@ -33,3 +35,19 @@ IsPrepared base request prepared = Ends base.schema request (IsRefused prepared)
 abbrev pub MayFollow : BaseParts → Prepared → Type 0
 MayFollow base (prepared_is.Refused text) = ⊤
 MayFollow base (prepared_is.Accepted tree vars) = MayRespond base tree vars
+
+-- ---- what is asked of a house
+
+-- it comes to this: its first refusal, or its tree
+abbrev pub IsPreparedFor : BaseParts → AskedParts → Prepared → Type 0
+IsPreparedFor base a prepared = EndsAsked base.schema a (IsRefused prepared) (Prepares base prepared)
+
+-- the tree may be asked of a store, and it is the one for which a plan is looked for
+pub record MayBeServed (base : BaseParts) (a : AskedParts) (tree : Tree) (vars : Vars) : Type 0 where
+  pub may : MayRespond base tree vars
+  pub asks : AsksFor base (wanted_with a vars) tree
+
+-- so is what is accepted
+abbrev pub MayServe : BaseParts → AskedParts → Prepared → Type 0
+MayServe base a (prepared_is.Refused text) = ⊤
+MayServe base a (prepared_is.Accepted tree vars) = MayBeServed base a tree vars

@@ -6,13 +6,13 @@ use Rattle.pg_base.specs.declared.vars.Vars.{Vars}
 use Rattle.gql_collect.specs.Trees.{tree_of}
 use Rattle.gql_reader.specs.declared.tree.Document.{Document}
 use Rattle.rel_model.specs.declared.tables.Tables.{Tables}
+use Rattle.place_tree.specs.Needs.{needed_statements}
 use Rattle.place_tree.specs.declared.place.Tree.{Tree}
 use Rattle.stmt_tree.specs.Form.{Rose}
 use Rattle.plan_steps.specs.Sound.{IsRootOf}
 use Rattle.plan_steps.specs.declared.plan.Root.TheVariants as root
 use Rattle.step_plan.specs.Planned.{IsPlannable}
 use Rattle.planned_response.specs.Responses.{AreTold, GetsFew}
-use Rattle.planned_response.specs.RowFields.{row_fields}
 use Rattle.request_core.specs.Answer.{executed_answer}
 use Rattle.request_core.specs.Refusals.{storage_fault, too_many}
 use Rattle.request_core.specs.Request.{Request, Ends}
@@ -54,7 +54,7 @@ pub record IsRun (base : BaseParts) (held : Option Tables) (vars : Vars) (tree :
     (text : List ℕ) : Type 0 where
   pub answer : (tables : Tables) → AreTold base.catalog held tables
       → (text ≡ executed_answer base tables vars tree) ⊎ IsStorageFault before now text
-  pub sent : now.sent ≤ before.sent + row_fields base tree
+  pub sent : now.sent ≤ before.sent + needed_statements base vars tree
   pub got : (tables : Tables) → AreTold base.catalog held tables → GetsFew base tables vars tree before.got now.got
   pub planned : now.plans ≡ before.plans + 1
 

@@ -43,7 +43,7 @@ pub fn answer_request<R: Rows, L: Ledger>(
     ensures told { (a : R.At) → R.tables_of rows.new a ≡ R.tables_of rows.old a }
 
     // A refusal sends and plans nothing. A query makes one plan, and sends no more statements than
-    // its tree has row fields; over told tables its answer is the text of execution, or that this
+    // it needs; over told tables its answer is the text of execution, or that this
     // is too large, or that the store failed, and no more rows are got than are visited.
     ensures answer { IfOk result (spent.AnswersOver (arc_value base.now)
         (R.tables_of rows.old at.now)

@@ -7,9 +7,11 @@ ghost use Rattle.gql_input.specs.declared.body.BodyError.TheVariants.{NoVariable
 ghost use Rattle.gql_input.specs.Chosen.{chosen};
 ghost use Rattle.gql_input.specs.Coerced.{coerced};
 ghost use Rattle.pg_base.specs.SchemaFaults.{build_fault};
+ghost use Rattle.request_core.specs.Asked.{asked_parts};
 ghost use Rattle.request_core.specs.Prepared as spec;
 ghost use Rattle.request_core.specs.Request as order;
 
+use crate::asked::Asked;
 use crate::refusals::{
     bad_body, no_mutation, no_operation, read_refusal, rule_refusal, too_many, variable_refusal,
 };
@@ -29,7 +31,7 @@ use std::alloc::{AllocError, Global};
 
 /// What a request comes to before a store is asked.
 #[derive(Drop)]
-pub(crate) enum Prepared {
+pub enum Prepared {
     /// It is refused, with this response.
     Refused(Blob),
     /// It asks for this tree, with these variables.
@@ -137,8 +139,8 @@ fn with_choice(
     }
 }
 
-/// The name of the operation, as a text.
-fn name_of(alloc: Global, operation: Option<&str>) -> Result<Option<Text>, Memory>
+/// The name of an operation, as a text.
+pub(crate) fn name_of(alloc: Global, operation: Option<&str>) -> Result<Option<Text>, Memory>
     ensures { IfOk result (λ name. name ≡ option_map (λ n. n.now) operation.entry) }
 {
     match operation {
@@ -150,33 +152,20 @@ fn name_of(alloc: Global, operation: Option<&str>) -> Result<Option<Text>, Memor
     }
 }
 
-/// The place of the operation that the request means.
-fn choice(
-    alloc: Global,
-    document: &Document,
-    operation: Option<&str>,
-) -> Result<Option<usize>, Memory>
-    ensures { IfOk result (λ place. place
-        ≡ chosen document.now (option_map (λ n. n.now) operation.entry)) }
-{
-    let name = name_of(alloc, operation)?;
-    Ok(chosen_operation(document, name.as_ref()))
-}
-
 /// From a valid document on.
 fn with_valid(
     alloc: Global,
     base: &Base,
-    request: Request<'_>,
+    operation: Option<&Text>,
     document: &Document,
     given: &Json,
 ) -> Result<Prepared, Memory>
     ensures { IfOk result (λ prepared. order.AfterChoice base.now.schema (view given.now)
         document.now (spec.IsRefused prepared)
         (spec.Prepares base.now prepared document.now)
-        (chosen document.now (order.request_of request.entry).operation)) }
+        (chosen document.now (option_map (λ n. n.now) operation.entry))) }
 {
-    let place = choice(alloc, document, request.operation)?;
+    let place = chosen_operation(document, operation);
     with_choice(alloc, base, document, place, given)
 }
 
@@ -184,17 +173,17 @@ fn with_valid(
 fn with_document(
     alloc: Global,
     base: &Base,
-    request: Request<'_>,
+    operation: Option<&Text>,
     document: &Document,
     given: &Json,
 ) -> Result<Prepared, Memory>
     ensures { IfOk result (λ prepared. order.AfterReading base.now.schema
-        (order.request_of request.entry).operation (view given.now) (spec.IsRefused prepared)
+        (option_map (λ n. n.now) operation.entry) (view given.now) (spec.IsRefused prepared)
         (spec.Prepares base.now prepared document.now)
         document.now) }
 {
     match check_document(alloc, base.schema(), document) {
-        Ok(()) => with_valid(alloc, base, request, document, given),
+        Ok(()) => with_valid(alloc, base, operation, document, given),
         Err(RuleError::Fault(fault)) => Ok(Prepared::Refused(rule_refusal(alloc, fault)?)),
         Err(RuleError::Memory) => Err(AllocError),
     }
@@ -204,16 +193,16 @@ fn with_document(
 fn with_given(
     alloc: Global,
     base: &Base,
-    request: Request<'_>,
+    text: &[u8],
+    operation: Option<&Text>,
     given: &Json,
 ) -> Result<Prepared, Memory>
     ensures { IfOk result (λ prepared. order.AfterBody base.now.schema
-        (order.request_of request.entry) (spec.IsRefused prepared)
-        (spec.Prepares base.now prepared)
-        (view given.now)) }
+        (order.asked text.now (option_map (λ n. n.now) operation.entry) None)
+        (spec.IsRefused prepared) (spec.Prepares base.now prepared) (view given.now)) }
 {
-    match read_document(alloc, request.document) {
-        Ok(document) => with_document(alloc, base, request, &document, given),
+    match read_document(alloc, text) {
+        Ok(document) => with_document(alloc, base, operation, &document, given),
         Err(ReadFault::At { which, pos }) => Ok(Prepared::Refused(read_refusal(
             alloc, which, pos,
         )?)),
@@ -221,8 +210,24 @@ fn with_given(
     }
 }
 
+/// The same, where the name of the operation is still to be copied.
+fn with_name(
+    alloc: Global,
+    base: &Base,
+    text: &[u8],
+    operation: Option<&str>,
+    given: &Json,
+) -> Result<Prepared, Memory>
+    ensures { IfOk result (λ prepared. order.AfterBody base.now.schema
+        (order.asked text.now (option_map (λ n. n.now) operation.entry) None)
+        (spec.IsRefused prepared) (spec.Prepares base.now prepared) (view given.now)) }
+{
+    let name = name_of(alloc, operation)?;
+    with_given(alloc, base, text, name.as_ref(), given)
+}
+
 /// What is given for the variables, where the bytes are some.
-fn read_given(alloc: Global, variables: Option<&[u8]>) -> Result<Json, BodyError>
+pub(crate) fn read_given(alloc: Global, variables: Option<&[u8]>) -> Result<Json, BodyError>
     ensures found { IfOk result (λ given.
         order.AreGiven (option_map (λ b. b.now) variables.entry) (view given)) }
     ensures refused { result ≡ Err NoVariables
@@ -240,14 +245,18 @@ fn with_request(alloc: Global, base: &Base, request: Request<'_>) -> Result<Prep
     ensures { IfOk result (spec.IsPrepared base.now (order.request_of request.entry)) }
 {
     match read_given(alloc, request.variables) {
-        Ok(given) => with_given(alloc, base, request, &given),
+        Ok(given) => with_name(alloc, base, request.document, request.operation, &given),
         Err(BodyError::NoVariables) => Ok(Prepared::Refused(bad_body(alloc)?)),
         Err(BodyError::Memory) => Err(AllocError),
     }
 }
 
-/// The same, where the schema has no fault: a tree that is accepted can then be planned, and is a query's.
-pub(crate) fn prepare(alloc: Global, base: &Base, request: Request<'_>) -> Result<Prepared, Memory>
+/// What a request comes to, over a base whose schema has no fault: its first refusal, or its tree, which can then be planned,
+/// and is a query's.
+///
+/// # Errors
+/// Out of memory.
+pub fn prepare(alloc: Global, base: &Base, request: Request<'_>) -> Result<Prepared, Memory>
     requires faultless { build_fault base.now.catalog ≡ None }
     ensures prepared { IfOk result (spec.IsPrepared base.now (order.request_of request.entry)) }
     ensures may { IfOk result (spec.MayFollow base.now) }
@@ -257,4 +266,31 @@ pub(crate) fn prepare(alloc: Global, base: &Base, request: Request<'_>) -> Resul
     valid_trees_are_plannable();
     query_trees_have_no_mutations();
     with_request(alloc, base, request)
+}
+
+/// What is asked of a house comes to this, from the document's bytes on.
+fn with_asked(alloc: Global, base: &Base, asked: &Asked) -> Result<Prepared, Memory>
+    ensures { IfOk result (spec.IsPreparedFor base.now (asked_parts asked.now)) }
+{
+    with_given(
+        alloc,
+        base,
+        asked.query.bytes(),
+        asked.operation.as_ref(),
+        &asked.variables,
+    )
+}
+
+/// The same, where the schema has no fault: a tree that is accepted can then be planned, is a query's, and is the one for
+/// which a plan is looked for.
+pub(crate) fn prepare_asked(alloc: Global, base: &Base, asked: &Asked) -> Result<Prepared, Memory>
+    requires faultless { build_fault base.now.catalog ≡ None }
+    ensures prepared { IfOk result (spec.IsPreparedFor base.now (asked_parts asked.now)) }
+    ensures may { IfOk result (spec.MayServe base.now (asked_parts asked.now)) }
+{
+    base.know();
+    base.catalog().know();
+    valid_trees_are_plannable();
+    query_trees_have_no_mutations();
+    with_asked(alloc, base, asked)
 }
