@@ -188,7 +188,7 @@ fn shown(alloc: Global, plan: &Plan) -> Result<Vec<u8>, Fail> {
 
 // ---- plans
 
-fn base_of(alloc: Global, script: &str) -> Result<Base, Fail> {
+pub(crate) fn base_of(alloc: Global, script: &str) -> Result<Base, Fail> {
     let Ok(script) = read_script(alloc, script.as_bytes()) else {
         return Err("no script".into());
     };
@@ -208,7 +208,12 @@ fn variables(alloc: Global) -> Result<Vars, AllocError> {
 }
 
 /// The tree of a document's first operation.
-fn tree_of(alloc: Global, schema: &Schema, document: &str, vars: &Vars) -> Result<Tree, Fail> {
+pub(crate) fn tree_of(
+    alloc: Global,
+    schema: &Schema,
+    document: &str,
+    vars: &Vars,
+) -> Result<Tree, Fail> {
     let Ok(document) = read_document(alloc, document.as_bytes()) else {
         return Err("no document".into());
     };

@@ -28,13 +28,13 @@ pub(crate) const WHOLE: Around = Around {
 };
 
 /// A text that may be left out.
-fn given(text: &str) -> Option<&str> {
+pub(crate) fn given(text: &str) -> Option<&str> {
     if text.is_empty() { None } else { Some(text) }
 }
 
 /// What a row asks: its part of the document, its variables and the name of its operation, which stand behind bars
 /// where there are some.
-fn parts_of(asked: &str) -> (&str, &str, &str) {
+pub(crate) fn parts_of(asked: &str) -> (&str, &str, &str) {
     let (part, rest) = asked.split_once(" | ").unwrap_or((asked, ""));
     let (variables, operation) = rest.split_once(" | ").unwrap_or((rest, ""));
     (part, variables, operation)

@@ -12,9 +12,13 @@ mod cursors;
 #[cfg(test)]
 mod errors;
 #[cfg(test)]
+mod houses;
+#[cfg(test)]
 mod limits;
 #[cfg(test)]
 mod opening;
+#[cfg(test)]
+mod passes;
 #[cfg(test)]
 mod relations;
 #[cfg(test)]
