@@ -3,7 +3,7 @@ use Rattle.std.proofs.Common.{◌≡◌, ℕ, ◌≤◌, List, length, Option, S
 use Rattle.std.specs.Prelude.{⊤}
 use Rattle.pg_io.specs.Files.{Told, Untold, Absent, Holds}
 use Rattle.request_core.specs.Request.{Request, asked}
-use Rattle.graphile_prog.specs.Words.{Query}
+use Rattle.command_words.specs.Commands as words
 use Rattle.graphile_prog.specs.Told.{Outside, IfHeld, IfGiven, IfAsked, IfAllHeld}
 use Rattle.graphile_prog.specs.Run.{IsTold}
 use Rattle.graphile_prog.specs.Parts.{IsRead}
@@ -27,18 +27,18 @@ given_map o (Some name) P Q f h = held_map (o.file name) (λ b. P (Some b)) (λ 
 
 -- ---- what a query's files ask
 
-abbrev Beside : Query → List ℕ → (Request → Type 0) → Option (List ℕ) → Type 0
+abbrev Beside : words.Request → List ℕ → (Request → Type 0) → Option (List ℕ) → Type 0
 Beside q document P variables = P (asked document q.operation variables)
 
-abbrev Over : Outside → Query → (Request → Type 0) → List ℕ → Type 0
+abbrev Over : Outside → words.Request → (Request → Type 0) → List ℕ → Type 0
 Over o q P document = IfGiven o q.variables (Beside q document P)
 
-pub asked_map : (o : Outside) (q : Query) (P Q : Request → Type 0) → ((r : Request) → P r → Q r) → IfAsked o q P → IfAsked o q Q
+pub asked_map : (o : Outside) (q : words.Request) (P Q : Request → Type 0) → ((r : Request) → P r → Q r) → IfAsked o q P → IfAsked o q Q
 asked_map o q P Q f h =
     held_map (o.file q.document) (Over o q P) (Over o q Q)
     (λ d. given_map o q.variables (Beside q d P) (Beside q d Q) (λ v. f (asked d q.operation v))) h
 
-pub all_held : (o : Outside) (q : Query) (P : List ℕ → Type 0) (Q : Request → Type 0) (R : List ℕ → Request → Type 0)
+pub all_held : (o : Outside) (q : words.Request) (P : List ℕ → Type 0) (Q : Request → Type 0) (R : List ℕ → Request → Type 0)
     → ((b : List ℕ) (r : Request) → P b → Q r → R b r) → IfHeld (o.file q.script) P → IfAsked o q Q → IfAllHeld o q R
 all_held o q P Q R f p h = held_map (o.file q.script) P (λ b. IfAsked o q (R b)) (λ b x. asked_map o q Q (R b) (λ r y. f b r x y) h) p
 

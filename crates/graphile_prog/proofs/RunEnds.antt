@@ -5,10 +5,11 @@ use Rattle.pg_base.specs.Lists.{Each}
 use Rattle.pg_base.specs.Limits.{most_script_bytes, most_document_bytes, most_variables_bytes}
 use Rattle.request_core.specs.Load.{IsLoadFault}
 use Rattle.request_core.proofs.OneAnswer.{loads_no_fault}
-use Rattle.graphile_prog.specs.Words.{Command, check, schema, query, Query}
+use Rattle.command_words.specs.Commands.{Command, check, schema, query, explain}
+use Rattle.command_words.specs.Commands as words
 use Rattle.graphile_prog.specs.Told.{Outside, Output, IfHeld}
 use Rattle.graphile_prog.specs.Stages.{Ends, AreRefused, ArePassed, OrMemory}
-use Rattle.graphile_prog.specs.Commands.{IsSomeScript, script_stages, variables_stages, request_stages, given_files, task_of, Wrote, Delivered}
+use Rattle.graphile_prog.specs.Commands.{IsSomeScript, script_stages, variables_stages, request_stages, given_files, files_of, task_of, Wrote, Delivered}
 use Rattle.graphile_prog.specs.Parts.{IsPassed, Tells}
 use Rattle.graphile_prog.specs.Run.{HasEnd, IsSafe, IsUnhindered, IsComplete}
 use Rattle.graphile_prog.specs.declared.status.Status.{Status}
@@ -53,7 +54,7 @@ variables_taken o (Some name) safe passed = (
   ),
 )
 
-request_taken : (o : Outside) (q : Query) → IsSafe o q.document → Each (IsSafe o) (given_files q.variables) → ArePassed (request_stages o q) → RefuseNone (request_stages o q)
+request_taken : (o : Outside) (q : words.Request) → IsSafe o q.document → Each (IsSafe o) (given_files q.variables) → ArePassed (request_stages o q) → RefuseNone (request_stages o q)
 request_taken o q safe given passed = (
   (λ s r. safe.1 r.1.rose),
   (
@@ -62,13 +63,17 @@ request_taken o q safe given passed = (
   ),
 )
 
+request_all : (q : words.Request) (o : Outside) → Each (IsSafe o) (files_of (query q)) → ArePassed (task_of o (query q)).stages → RefuseNone (task_of o (query q)).stages
+request_all q o safe passed =
+    let split = passed_split (script_stages o q.script) (request_stages o q) passed in
+    none_both (script_stages o q.script) (request_stages o q) (script_taken o q.script safe.0 split.0)
+    (request_taken o q safe.1.0 safe.1.1 split.1)
+
 taken : (c : Command) (o : Outside) (out : Output) → IsUnhindered o out c → RefuseNone (task_of o c).stages
 taken (check script) o out u = script_taken o script u.safe.0 u.passed
 taken (schema script) o out u = script_taken o script u.safe.0 u.passed
-taken (query q) o out u =
-    let split = passed_split (script_stages o q.script) (request_stages o q) u.passed in
-    none_both (script_stages o q.script) (request_stages o q) (script_taken o q.script u.safe.0 split.0)
-    (request_taken o q u.safe.1.0 u.safe.1.1 split.1)
+taken (query q) o out u = request_all q o u.safe u.passed
+taken (explain q) o out u = request_all q o u.safe u.passed
 
 unhindered : (c : Command) (o : Outside) (out : Output) (answered : Status) → IsUnhindered o out c
     → Ends (task_of o c).stages (Wrote (task_of o c).writes out) answered → (answered ≡ status.Done) ⊎ (answered ≡ status.Memory)

@@ -1,5 +1,5 @@
 -- The stages of commands, from what their parts say.
-use Rattle.std.proofs.Common.{◌≡◌, inl, inr, ℕ, ◌<◌, ◌≤◌, List, [], ◌∷◌, ◌++◌, length, Option, Some, None, subst, ◌∙◌, codes}
+use Rattle.std.proofs.Common.{◌≡◌, inl, inr, ℕ, ◌<◌, ◌≤◌, List, [], ◌∷◌, ◌++◌, length, Option, Some, None, refl, sym, ap, subst, ◌∙◌, codes}
 use Rattle.std.specs.Prelude.{⊤}
 use Rattle.pg_base.specs.Base.{BaseParts}
 use Rattle.pg_base.specs.Limits.{most_script_bytes, most_document_bytes, most_variables_bytes}
@@ -9,15 +9,18 @@ use Rattle.schema_build.specs.Sdl.{sdl_of}
 use Rattle.request_core.specs.Load.{Loads, IsLoadFault}
 use Rattle.request_core.specs.Request.{Request, asked}
 use Rattle.request_core.specs.Answer.{IsAnswer}
-use Rattle.graphile_prog.specs.Words.{check, schema, query, Query}
+use Rattle.request_core.specs.Explained.{IsExplained}
+use Rattle.request_core.specs.declared.explaining.Explanation.{Explanation}
+use Rattle.command_words.specs.Commands.{check, schema, query, explain}
+use Rattle.command_words.specs.Commands as words
 use Rattle.graphile_prog.specs.Told.{Outside, outside, IfHeld, IfGiven, CountsStay}
 use Rattle.graphile_prog.specs.Stages.{Stage, AreRefused, ArePassed, OrMemory}
-use Rattle.graphile_prog.specs.Commands.{IsSomeScript, IsRefusedBy, IsSchemaText, IsResponse, script_stage, script_stages, variables_stages, request_stages, file_stage, size_stage, task_of}
-use Rattle.graphile_prog.specs.Parts.{read_stages, IsRead, IsLoadedBy, IsLoaded, IsGivenAs, IsAnsweredBeside, IsAnsweredBy, IsPassed}
+use Rattle.graphile_prog.specs.Commands.{IsSomeScript, IsRefusedBy, IsSchemaText, IsResponse, IsPlanText, script_stage, script_stages, variables_stages, request_stages, file_stage, size_stage, task_of}
+use Rattle.graphile_prog.specs.Parts.{read_stages, IsRead, IsLoadedBy, IsLoaded, IsGivenAs, AreReadFor, AreRead, IsAnsweredBy, IsPlanOf, IsPassed}
 use Rattle.graphile_prog.specs.declared.status.Status.{Status}
 use Rattle.graphile_prog.specs.declared.status.Status.TheVariants as status
 use Rattle.graphile_prog.proofs.Order.{refused_first, refused_later, passed_both}
-use Rattle.graphile_prog.proofs.Held.{held_map, all_held, read_there, read_short, read_holds}
+use Rattle.graphile_prog.proofs.Held.{held_map, asked_map, all_held, read_there, read_short, read_holds}
 
 -- ---- the script's file
 
@@ -72,34 +75,27 @@ given_holds o None given P p g = subst P g p
 given_holds o (Some name) given P p g =
     read_holds (o.file name) most_variables_bytes g.0 (λ b. P (Some b)) (λ b. P (Some b)) (λ b short x. x) (subst P g.1 p) g.2
 
-abbrev Beside : Query → List ℕ → (Request → Type 0) → Option (List ℕ) → Type 0
+abbrev Beside : words.Request → List ℕ → (Request → Type 0) → Option (List ℕ) → Type 0
 Beside q document P variables = P (asked document q.operation variables)
-
--- ---- from a document's bytes on
-
-pub beside_answered : (o : Outside) (q : Query) (base : BaseParts) (tables : Tables) (document : List ℕ) (given : Option (List ℕ)) (text : List ℕ) → IsGivenAs o q.variables given
-    → IsAnswer base tables (asked document q.operation given) text → IsAnsweredBeside o q base tables document text
-beside_answered o q base tables document given text g a = record {
-  passed = given_passed o q.variables given g;
-  answer = given_holds o q.variables given (Beside q document (λ r. IsAnswer base tables r text)) a g;
-}
 
 -- ---- from a document's file on
 
-document_read : (o : Outside) (q : Query) (document : List ℕ) → IsRead (o.file q.document) most_document_bytes document → ArePassed (read_stages o q.document most_document_bytes)
+document_read : (o : Outside) (q : words.Request) (document : List ℕ) → IsRead (o.file q.document) most_document_bytes document → ArePassed (read_stages o q.document most_document_bytes)
 document_read o q document read =
     (read_there (o.file q.document) most_document_bytes document read, (read_short (o.file q.document) most_document_bytes document read, tt))
 
-pub files_unread : (o : Outside) (q : Query) (s : Status) → OrMemory (AreRefused (read_stages o q.document most_document_bytes)) s → OrMemory (AreRefused (request_stages o q)) s
+pub files_unread : (o : Outside) (q : words.Request) (s : Status) → OrMemory (AreRefused (read_stages o q.document most_document_bytes)) s → OrMemory (AreRefused (request_stages o q)) s
 files_unread o q s (inl m) = inl m
 files_unread o q s (inr r) = inr (refused_first (read_stages o q.document most_document_bytes) (variables_stages o q.variables) s r)
 
-over_answered : (o : Outside) (q : Query) (base : BaseParts) (tables : Tables) (document text : List ℕ) → IsRead (o.file q.document) most_document_bytes document
-    → IsAnsweredBeside o q base tables document text → IsAnsweredBy o q base tables text
-over_answered o q base tables document text read a = record {
-  passed = passed_both (read_stages o q.document most_document_bytes) (variables_stages o q.variables) (document_read o q document read) a.passed;
-  answer = read_holds (o.file q.document) most_document_bytes document (λ d. IfGiven o q.variables (Beside q d (λ r. IsAnswer base tables r text)))
-      (λ d. IfGiven o q.variables (Beside q d (λ r. IsAnswer base tables r text))) (λ held short x. x) a.answer read;
+over_read : (o : Outside) (q : words.Request) (document : List ℕ) (given : Option (List ℕ)) → IsRead (o.file q.document) most_document_bytes document
+    → IsGivenAs o q.variables given → AreRead o q document given
+over_read o q document given read g = record {
+  passed = passed_both (read_stages o q.document most_document_bytes) (variables_stages o q.variables) (document_read o q document read) (given_passed o q.variables given g);
+  due = read_holds (o.file q.document) most_document_bytes document (λ d. d ≡ document)
+      (λ d. IfGiven o q.variables (Beside q d (λ r. r ≡ asked document q.operation given)))
+      (λ held short e. given_holds o q.variables given (Beside q held (λ r. r ≡ asked document q.operation given))
+      (ap (λ (d : List ℕ). asked d q.operation given) e) g) refl read;
 }
 
 -- two moments of a run with the same files and counts
@@ -111,33 +107,55 @@ module _ (file mid_file : List ℕ → Told) (before mid now : List ℕ → ℕ)
   moved : (P : Outside → Type 0) → P (outside mid_file mid now) → P (outside file before now)
   moved P p = subst P same_outside p
 
-  pub files_refused : (q : Query) (document : List ℕ) (s : Status) → IsRead (file q.document) most_document_bytes document
+  pub files_refused : (q : words.Request) (document : List ℕ) (s : Status) → IsRead (file q.document) most_document_bytes document
       → OrMemory (AreRefused (variables_stages (outside mid_file mid now) q.variables)) s → OrMemory (AreRefused (request_stages (outside file before now) q)) s
   files_refused q document s read (inl m) = inl m
   files_refused q document s read (inr r) =
       inr (refused_later (read_stages (outside file before now) q.document most_document_bytes) (variables_stages (outside file before now) q.variables) s
       (document_read (outside file before now) q document read) (moved (λ o. AreRefused (variables_stages o q.variables) s) r))
 
-  pub files_answered : (q : Query) (base : BaseParts) (tables : Tables) (document text : List ℕ) → IsRead (file q.document) most_document_bytes document
-      → IsAnsweredBeside (outside mid_file mid now) q base tables document text → IsAnsweredBy (outside file before now) q base tables text
-  files_answered q base tables document text read a =
-      over_answered (outside file before now) q base tables document text read (moved (λ o. IsAnsweredBeside o q base tables document text) a)
+  pub files_read : (q : words.Request) (document : List ℕ) (given : Option (List ℕ)) → IsRead (file q.document) most_document_bytes document
+      → IsGivenAs (outside mid_file mid now) q.variables given → AreRead (outside file before now) q document given
+  files_read q document given read g = over_read (outside file before now) q document given read (moved (λ o. IsGivenAs o q.variables given) g)
 
--- ---- a whole query
+-- ---- what is done with what was read
 
-pub query_unloaded : (o : Outside) (q : Query) (s : Status) → OrMemory (AreRefused (script_stages o q.script)) s → OrMemory (AreRefused (task_of o (query q)).stages) s
+module _ (o : Outside) (q : words.Request) (document : List ℕ) (given : Option (List ℕ)) (read : AreRead o q document given) where
+  read_for : (P : Request → Type 0) → P (asked document q.operation given) → AreReadFor o q P
+  read_for P p = record {
+    passed = read.passed;
+    due = asked_map o q (λ request. request ≡ asked document q.operation given) P (λ request e. subst P (sym e) p) read.due;
+  }
+
+  pub answered_by : (base : BaseParts) (tables : Tables) (text : List ℕ) → IsAnswer base tables (asked document q.operation given) text → IsAnsweredBy o q base tables text
+  answered_by base tables text answer = read_for (λ request. IsAnswer base tables request text) answer
+
+  pub explained_by : (base : BaseParts) (x : Explanation) → IsExplained base (asked document q.operation given) x → AreReadFor o q (λ request. IsExplained base request x)
+  explained_by base x explained = read_for (λ request. IsExplained base request x) explained
+
+-- ---- a whole query, or what is to be explained
+
+pub query_unloaded : (o : Outside) (q : words.Request) (s : Status) → OrMemory (AreRefused (script_stages o q.script)) s → OrMemory (AreRefused (task_of o (query q)).stages) s
 query_unloaded o q s (inl m) = inl m
 query_unloaded o q s (inr r) = inr (refused_first (script_stages o q.script) (request_stages o q) s r)
 
-loaded_passed : (o : Outside) (q : Query) (base : BaseParts) (tables : Tables) (response text : List ℕ) → IsLoaded (o.file q.script) base tables
+loaded_passed : (o : Outside) (q : words.Request) (base : BaseParts) (tables : Tables) (response text : List ℕ) → IsLoaded (o.file q.script) base tables
     → IsAnsweredBy o q base tables response → text ≡ response ++ 10 ∷ [] → IsPassed o (query q) text
 loaded_passed o q base tables response text loaded a is = record {
   stages = passed_both (script_stages o q.script) (request_stages o q) (script_passed o q.script base tables loaded) a.passed;
   due = all_held o q (IsLoadedBy base tables) (λ r. IsAnswer base tables r response) (IsResponse text)
-      (λ script request l x. record { base = base; tables = tables; response = response; loads = l.1; answer = x; shown = is }) loaded a.answer;
+      (λ script request l x. record { base = base; tables = tables; response = response; loads = l.1; answer = x; shown = is }) loaded a.due;
 }
 
-module _ (file mid_file : List ℕ → Told) (before mid now : List ℕ → ℕ) (q : Query) (base : BaseParts) (tables : Tables)
+loaded_explained : (o : Outside) (q : words.Request) (base : BaseParts) (tables : Tables) (text : List ℕ) → IsLoaded (o.file q.script) base tables
+    → IsPlanOf o q base text → IsPassed o (explain q) text
+loaded_explained o q base tables text loaded a = record {
+  stages = passed_both (script_stages o q.script) (request_stages o q) (script_passed o q.script base tables loaded) a.explained.passed;
+  due = all_held o q (IsLoadedBy base tables) (λ r. IsExplained base r a.explanation) (IsPlanText text)
+      (λ script request l x. record { base = base; tables = tables; explanation = a.explanation; loads = l.1; explained = x; shown = a.shown }) loaded a.explained.due;
+}
+
+module _ (file mid_file : List ℕ → Told) (before mid now : List ℕ → ℕ) (q : words.Request) (base : BaseParts) (tables : Tables)
     (loaded : IsLoaded (file q.script) base tables) (kept : (name : List ℕ) → mid_file name ≡ file name) (stay : CountsStay before mid) where
   pub query_unanswered : (s : Status) → OrMemory (AreRefused (request_stages (outside mid_file mid now) q)) s
       → OrMemory (AreRefused (task_of (outside file before now) (query q)).stages) s
@@ -151,3 +169,7 @@ module _ (file mid_file : List ℕ → Told) (before mid now : List ℕ → ℕ)
   query_passed response text a is =
       loaded_passed (outside file before now) q base tables response text loaded
       (moved file mid_file before mid now kept stay (λ o. IsAnsweredBy o q base tables response) a) is
+
+  pub plan_passed : (text : List ℕ) → IsPlanOf (outside mid_file mid now) q base text → IsPassed (outside file before now) (explain q) text
+  plan_passed text a =
+      loaded_explained (outside file before now) q base tables text loaded (moved file mid_file before mid now kept stay (λ o. IsPlanOf o q base text) a)

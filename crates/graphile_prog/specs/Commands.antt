@@ -10,10 +10,13 @@ use Rattle.schema_build.specs.Sdl.{sdl_of}
 use Rattle.request_core.specs.Load.{Loads, IsLoadFault}
 use Rattle.request_core.specs.Request.{Request}
 use Rattle.request_core.specs.Answer.{IsAnswer}
+use Rattle.request_core.specs.Explained.{IsExplained, lines_of}
+use Rattle.request_core.specs.declared.explaining.Explanation.{Explanation}
 use Rattle.request_core.specs.declared.loading.LoadFault.{LoadFault}
+use Rattle.command_words.specs.Commands.{Command, check, schema, query, explain}
+use Rattle.command_words.specs.Commands as words
 use Rattle.graphile_prog.specs.Told.{Outside, Output, IfHeld, IfAllHeld, RoseAlone}
 use Rattle.graphile_prog.specs.Stages.{Stage, Because}
-use Rattle.graphile_prog.specs.Words.{Command, check, schema, query, Query}
 use Rattle.graphile_prog.specs.declared.status.Status.{Status}
 use Rattle.graphile_prog.specs.declared.status.Status.TheVariants as status
 
@@ -69,8 +72,8 @@ variables_stages o (Some name) =
     ∷ size_stage (o.file name) most_variables_bytes
     ∷ []
 
--- the other files of a query
-abbrev pub request_stages : Outside → Query → List Stage
+-- the other files of a query, or of what is to be explained
+abbrev pub request_stages : Outside → words.Request → List Stage
 request_stages o q =
     file_stage o q.document
     ∷ size_stage (o.file q.document) most_document_bytes
@@ -94,6 +97,15 @@ pub record IsResponse (text script : List ℕ) (request : Request) : Type 0 wher
   pub answer : IsAnswer base tables request response
   pub shown : text ≡ response ++ 10 ∷ []
 
+-- the text explains the request over what the script gives: its first refusal and LF, or the lines of its plan
+pub record IsPlanText (text script : List ℕ) (request : Request) : Type 0 where
+  pub base : BaseParts
+  pub tables : Tables
+  pub explanation : Explanation
+  pub loads : Loads script base tables
+  pub explained : IsExplained base request explanation
+  pub shown : text ≡ lines_of explanation
+
 -- ---- commands
 
 -- what a command does before its end, in order, and what it writes
@@ -114,6 +126,10 @@ task_of o (query q) = record {
   stages = script_stages o q.script ++ request_stages o q;
   writes = λ text. IfAllHeld o q (IsResponse text);
 }
+task_of o (explain q) = record {
+  stages = script_stages o q.script ++ request_stages o q;
+  writes = λ text. IfAllHeld o q (IsPlanText text);
+}
 
 abbrev pub given_files : Option (List ℕ) → List (List ℕ)
 given_files None = []
@@ -124,6 +140,7 @@ abbrev pub files_of : Command → List (List ℕ)
 files_of (check script) = script ∷ []
 files_of (schema script) = script ∷ []
 files_of (query q) = q.script ∷ q.document ∷ given_files q.variables
+files_of (explain q) = q.script ∷ q.document ∷ given_files q.variables
 
 -- ---- the end
 

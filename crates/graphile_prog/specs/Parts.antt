@@ -7,9 +7,13 @@ use Rattle.rel_model.specs.declared.tables.Tables.{Tables}
 use Rattle.request_core.specs.Load.{Loads}
 use Rattle.request_core.specs.Request.{Request, asked}
 use Rattle.request_core.specs.Answer.{IsAnswer}
+use Rattle.request_core.specs.Explained.{IsExplained, lines_of}
+use Rattle.request_core.specs.declared.explaining.Explanation.{Explanation}
+use Rattle.command_words.specs.Commands as words
+use Rattle.command_words.specs.declared.fault.WordsFault.{WordsFault}
+use Rattle.command_words.specs.declared.fault.WordsFault.TheVariants as words_fault
 use Rattle.graphile_prog.specs.Told.{Outside, IfHeld, IfGiven, IfAsked, CountsStay}
 use Rattle.graphile_prog.specs.Stages.{Stage, ArePassed}
-use Rattle.graphile_prog.specs.Words.{Command, Query}
 use Rattle.graphile_prog.specs.Commands.{file_stage, size_stage, variables_stages, request_stages, task_of}
 use Rattle.graphile_prog.specs.declared.commands.Page.{Page}
 use Rattle.graphile_prog.specs.declared.status.Status.{Status}
@@ -36,30 +40,33 @@ IsGivenAs o None given = given ≡ None
 IsGivenAs o (Some name) given =
     (bytes : List ℕ) × (given ≡ Some bytes) × IsRead (o.file name) most_variables_bytes bytes
 
--- ---- from a document's bytes on
-
--- with the variables' file, where one is named
-abbrev pub IfBeside : Outside → Query → List ℕ → (Request → Type 0) → Type 0
-IfBeside o q document P = IfGiven o q.variables (λ variables. P (asked document q.operation variables))
-
--- the text answers the request of the document and the variables' file over them
-pub record IsAnsweredBeside (o : Outside) (q : Query) (base : BaseParts) (tables : Tables) (document text : List ℕ)
-    : Type 0 where
-  pub passed : ArePassed (variables_stages o q.variables)
-  pub answer : IfBeside o q document (λ request. IsAnswer base tables request text)
-
 -- ---- from a document's file on
 
--- the text answers the request of both files over them
-pub record IsAnsweredBy (o : Outside) (q : Query) (base : BaseParts) (tables : Tables) (text : List ℕ) : Type 0 where
+-- the files of a request were read, and this holds of what they ask
+pub record AreReadFor (o : Outside) (q : words.Request) (P : Request → Type 0) : Type 0 where
   pub passed : ArePassed (request_stages o q)
-  pub answer : IfAsked o q (λ request. IsAnswer base tables request text)
+  pub due : IfAsked o q P
+
+-- what was read of them
+abbrev pub AreRead : Outside → words.Request → List ℕ → Option (List ℕ) → Type 0
+AreRead o q document given = AreReadFor o q (λ request. request ≡ asked document q.operation given)
+
+-- the text answers their request over the tables
+abbrev pub IsAnsweredBy : Outside → words.Request → BaseParts → Tables → List ℕ → Type 0
+IsAnsweredBy o q base tables text = AreReadFor o q (λ request. IsAnswer base tables request text)
 
 -- the same with LF
-pub record IsLineOf (o : Outside) (q : Query) (base : BaseParts) (tables : Tables) (text : List ℕ) : Type 0 where
+pub record IsLineOf (o : Outside) (q : words.Request) (base : BaseParts) (tables : Tables) (text : List ℕ)
+    : Type 0 where
   pub response : List ℕ
   pub answered : IsAnsweredBy o q base tables response
   pub shown : text ≡ response ++ 10 ∷ []
+
+-- the text explains their request
+pub record IsPlanOf (o : Outside) (q : words.Request) (base : BaseParts) (text : List ℕ) : Type 0 where
+  pub explanation : Explanation
+  pub explained : AreReadFor o q (λ request. IsExplained base request explanation)
+  pub shown : text ≡ lines_of explanation
 
 abbrev pub ending : Bool → List ℕ
 ending line_feed = if line_feed then 10 ∷ [] else []
@@ -69,9 +76,14 @@ abbrev pub written : Page → List ℕ
 written page = page.text ++ ending page.line_feed
 
 -- all stages are passed, and the command is to write the text
-pub record IsPassed (o : Outside) (c : Command) (text : List ℕ) : Type 0 where
+pub record IsPassed (o : Outside) (c : words.Command) (text : List ℕ) : Type 0 where
   pub stages : ArePassed (task_of o c).stages
   pub due : (task_of o c).writes text
+
+-- how a run ends whose words give no command
+abbrev pub words_status : WordsFault → Status
+words_status words_fault.BadWords = status.BadWords
+words_status words_fault.Memory = status.Memory
 
 -- a count changes only where a file could not be read
 abbrev pub CountsStayBut : (List ℕ → ℕ) → (List ℕ → ℕ) → Status → Type 0

@@ -1,19 +1,24 @@
 -- What a run owes for its words, its files and its sink.
-use Rattle.std.specs.Prelude.{◌≡◌, ◌⊎◌, ℕ, List, Option, Some, None, Result, ⊤}
+use Rattle.std.specs.Prelude.{◌≡◌, ◌≢◌, ◌⊎◌, ℕ, Bool, true, false, List, Option, Some, None, Result, ⊤}
 use Rattle.pg_base.specs.Lists.{Each}
 use Rattle.pg_io.specs.Files.{Told, Untold, Absent, Holds}
 use Rattle.pg_io.specs.Streams.{Rose, HasCause, Delivers}
 use Rattle.pg_io.specs.declared.streams.Failed.{Failed}
-use Rattle.graphile_prog.specs.Words.{Command}
+use Rattle.command_words.specs.Commands.{Command}
 use Rattle.graphile_prog.specs.Told.{Outside, Output}
 use Rattle.graphile_prog.specs.Stages.{Ends, ArePassed, OrMemory}
 use Rattle.graphile_prog.specs.Commands.{task_of, files_of, Wrote}
 use Rattle.graphile_prog.specs.declared.status.Status.{Status}
 use Rattle.graphile_prog.specs.declared.status.Status.TheVariants as status
 
+-- words that are accepted are never refused; others are, unless memory runs out before
+abbrev pub RefusesWords : Bool → Status → Type 0
+RefusesWords true answered = answered ≢ status.BadWords
+RefusesWords false answered = OrMemory (λ s. s ≡ status.BadWords) answered
+
 -- the first stage of the command that isn't passed gives the status, and where all are passed the command itself
 abbrev pub HasEnd : Option Command → Outside → Output → Status → Type 0
-HasEnd None o out answered = answered ≡ status.BadWords
+HasEnd None o out answered = OrMemory (λ s. s ≡ status.BadWords) answered
 HasEnd (Some c) o out answered = OrMemory (Ends (task_of o c).stages (Wrote (task_of o c).writes out)) answered
 
 -- the status has a line of its own

@@ -3,7 +3,7 @@ use Rattle.std.specs.Prelude.{◌≡◌, ℕ, List, Option, Some, None, ⊤}
 use Rattle.pg_io.specs.Files.{Told, Untold, Absent, Holds, OthersStay}
 use Rattle.pg_io.specs.Streams.{Rose}
 use Rattle.request_core.specs.Request.{Request, asked}
-use Rattle.graphile_prog.specs.Words.{Query}
+use Rattle.command_words.specs.Commands as words
 
 -- what is told of the files of a run, and how often calls had failed for each name before it and have now
 pub record Outside : Type 0 where
@@ -36,13 +36,13 @@ abbrev pub IfGiven : Outside → Option (List ℕ) → (Option (List ℕ) → Ty
 IfGiven o None P = P None
 IfGiven o (Some name) P = IfHeld (o.file name) (λ bytes. P (Some bytes))
 
--- this holds of what a query's files ask, where they are told
-abbrev pub IfAsked : Outside → Query → (Request → Type 0) → Type 0
+-- this holds of what the files of a request ask, where they are told
+abbrev pub IfAsked : Outside → words.Request → (Request → Type 0) → Type 0
 IfAsked o q P = IfHeld (o.file q.document) (λ document.
     IfGiven o q.variables (λ variables. P (asked document q.operation variables)))
 
 -- this holds of the script's bytes and of what the other files ask
-abbrev pub IfAllHeld : Outside → Query → (List ℕ → Request → Type 0) → Type 0
+abbrev pub IfAllHeld : Outside → words.Request → (List ℕ → Request → Type 0) → Type 0
 IfAllHeld o q P = IfHeld (o.file q.script) (λ script. IfAsked o q (P script))
 
 -- the count of the name has risen, and no other

@@ -5,22 +5,25 @@ ghost use Rattle.std.specs.Arc.{arc_value};
 ghost use Rattle.pg_base.specs.Base.{BaseParts};
 ghost use Rattle.schema_build.specs.Sdl.{sdl_of};
 ghost use Rattle.request_core.specs.Load.{Loads, IsLoadFault, IsUsable};
-ghost use Rattle.request_core.specs.Request.{asked};
+ghost use Rattle.request_core.specs.Request.{asked, request_of};
 ghost use Rattle.request_core.specs.Answer.{IsAnswer};
+ghost use Rattle.request_core.specs.Explained.{IsExplained};
+ghost use Rattle.request_core.specs.Explained as explained;
+ghost use Rattle.command_words.specs.Asked.{told, request_told};
+ghost use Rattle.command_words.specs.Commands as words;
 ghost use Rattle.graphile_prog.specs.declared.status.Status.TheVariants as status_is;
 ghost use Rattle.graphile_prog.specs.Told.{outside, CountsStay};
 ghost use Rattle.graphile_prog.specs.Stages.{AreRefused, OrMemory};
-ghost use Rattle.graphile_prog.specs.Words as words;
 ghost use Rattle.graphile_prog.specs.Commands as spec;
 ghost use Rattle.graphile_prog.specs.Parts as parts;
 
-use crate::answering::answer_loaded;
+use crate::answering::{answer_loaded, explain_loaded};
 use crate::status::Status;
-use crate::words::{Command, Query};
+use command_words::Command;
 use pg_base::limits::{MOST_DOCUMENT_BYTES, MOST_SCRIPT_BYTES, MOST_VARIABLES_BYTES};
 use pg_base::{Blob, Schema};
 use pg_io::{FileFault, Files};
-use request_core::{LoadError, Loaded, Request, load};
+use request_core::{Explanation, LoadError, Loaded, Request, load};
 use schema_build::print_schema;
 use std::alloc::Global;
 
@@ -54,10 +57,10 @@ fn lines(text: Blob) -> Page
 pub fn perform<F: Files>(alloc: Global, command: Command<'_>, files: &mut F) -> Result<Page, Status>
     ensures ok { IfOk result (λ page. parts.IsPassed
         (outside (F.file files.old) (F.faults files.old) (F.faults files.new))
-        (words.read command.entry) (parts.written page)) }
+        (told command.entry) (parts.written page)) }
     ensures err { IfErr result (OrMemory (AreRefused (spec.task_of
         (outside (F.file files.old) (F.faults files.old) (F.faults files.new))
-        (words.read command.entry)).stages)) }
+        (told command.entry)).stages)) }
     ensures quiet { OnOk result (CountsStay (F.faults files.old) (F.faults files.new)) }
     ensures counts { IfErr result
         (parts.CountsStayBut (F.faults files.old) (F.faults files.new)) }
@@ -67,6 +70,7 @@ pub fn perform<F: Files>(alloc: Global, command: Command<'_>, files: &mut F) -> 
         Command::Check(script) => check(alloc, script, files),
         Command::Schema(script) => schema(alloc, script, files),
         Command::Query(asks) => query(alloc, asks, files),
+        Command::Explain(asks) => explain(alloc, asks, files),
     }
 }
 
@@ -127,13 +131,17 @@ fn schema_text(alloc: Global, schema: &Schema) -> Result<Blob, Status>
 }
 
 /// The response to the request over what the script gives.
-fn query<F: Files>(alloc: Global, asks: Query<'_>, files: &mut F) -> Result<Page, Status>
+fn query<F: Files>(
+    alloc: Global,
+    asks: command_words::Request<'_>,
+    files: &mut F,
+) -> Result<Page, Status>
     ensures ok { IfOk result (λ page. parts.IsPassed
         (outside (F.file files.old) (F.faults files.old) (F.faults files.new))
-        (words.query (words.query_of asks.entry)) (parts.written page)) }
+        (words.query (request_told asks.entry)) (parts.written page)) }
     ensures err { IfErr result (OrMemory (AreRefused (spec.task_of
         (outside (F.file files.old) (F.faults files.old) (F.faults files.new))
-        (words.query (words.query_of asks.entry))).stages)) }
+        (words.query (request_told asks.entry))).stages)) }
     ensures quiet { OnOk result (CountsStay (F.faults files.old) (F.faults files.new)) }
     ensures counts { IfErr result
         (parts.CountsStayBut (F.faults files.old) (F.faults files.new)) }
@@ -146,26 +154,84 @@ fn query<F: Files>(alloc: Global, asks: Query<'_>, files: &mut F) -> Result<Page
 /// The line of the response to what the other files of a query ask.
 fn answer_page<F: Files>(
     alloc: Global,
-    asks: Query<'_>,
+    asks: command_words::Request<'_>,
     loaded: &Loaded,
     files: &mut F,
 ) -> Result<Page, Status>
     requires { IsUsable (arc_value loaded.now.base) loaded.now.tables }
     ensures ok { IfOk result (λ page. parts.IsLineOf
         (outside (F.file files.old) (F.faults files.old) (F.faults files.new))
-        (words.query_of asks.entry) (arc_value loaded.now.base) loaded.now.tables
+        (request_told asks.entry) (arc_value loaded.now.base) loaded.now.tables
         (parts.written page)) }
     ensures err { IfErr result (OrMemory (AreRefused (spec.request_stages
         (outside (F.file files.old) (F.faults files.old) (F.faults files.new))
-        (words.query_of asks.entry)))) }
+        (request_told asks.entry)))) }
     ensures quiet { OnOk result (CountsStay (F.faults files.old) (F.faults files.new)) }
     ensures counts { IfErr result
         (parts.CountsStayBut (F.faults files.old) (F.faults files.new)) }
     ensures kept { (other : List ℕ) → F.file files.new other ≡ F.file files.old other }
 {
-    match answer_files(alloc, asks, loaded, files) {
+    let read = read_request(alloc, asks, files)?;
+    match answer_read(alloc, asks, loaded, &read) {
         Ok(text) => Ok(line(text)),
         Err(status) => Err(status),
+    }
+}
+
+/// What tells how a request is served, over what the script gives.
+fn explain<F: Files>(
+    alloc: Global,
+    asks: command_words::Request<'_>,
+    files: &mut F,
+) -> Result<Page, Status>
+    ensures ok { IfOk result (λ page. parts.IsPassed
+        (outside (F.file files.old) (F.faults files.old) (F.faults files.new))
+        (words.explain (request_told asks.entry)) (parts.written page)) }
+    ensures err { IfErr result (OrMemory (AreRefused (spec.task_of
+        (outside (F.file files.old) (F.faults files.old) (F.faults files.new))
+        (words.explain (request_told asks.entry))).stages)) }
+    ensures quiet { OnOk result (CountsStay (F.faults files.old) (F.faults files.new)) }
+    ensures counts { IfErr result
+        (parts.CountsStayBut (F.faults files.old) (F.faults files.new)) }
+    ensures kept { (name : List ℕ) → F.file files.new name ≡ F.file files.old name }
+{
+    let loaded = load_file(alloc, asks.script, files)?;
+    plan_page(alloc, asks, &loaded, files)
+}
+
+/// The lines of what is explained of what the other files ask.
+fn plan_page<F: Files>(
+    alloc: Global,
+    asks: command_words::Request<'_>,
+    loaded: &Loaded,
+    files: &mut F,
+) -> Result<Page, Status>
+    requires { IsUsable (arc_value loaded.now.base) loaded.now.tables }
+    ensures ok { IfOk result (λ page. parts.IsPlanOf
+        (outside (F.file files.old) (F.faults files.old) (F.faults files.new))
+        (request_told asks.entry) (arc_value loaded.now.base) (parts.written page)) }
+    ensures err { IfErr result (OrMemory (AreRefused (spec.request_stages
+        (outside (F.file files.old) (F.faults files.old) (F.faults files.new))
+        (request_told asks.entry)))) }
+    ensures quiet { OnOk result (CountsStay (F.faults files.old) (F.faults files.new)) }
+    ensures counts { IfErr result
+        (parts.CountsStayBut (F.faults files.old) (F.faults files.new)) }
+    ensures kept { (other : List ℕ) → F.file files.new other ≡ F.file files.old other }
+{
+    let read = read_request(alloc, asks, files)?;
+    match explain_read(alloc, asks, loaded, &read) {
+        Ok(explanation) => Ok(lines_of(explanation)),
+        Err(status) => Err(status),
+    }
+}
+
+/// A refusal is a line; the text of a plan has its lines.
+fn lines_of(explanation: Explanation) -> Page
+    ensures { parts.written result ≡ explained.lines_of explanation }
+{
+    match explanation {
+        Explanation::Refused(text) => line(text),
+        Explanation::Plan(text) => lines(text),
     }
 }
 
@@ -199,76 +265,82 @@ fn load_bytes(alloc: Global, script: &[u8]) -> Result<Loaded, Status>
     }
 }
 
-/// Reads the other files of a query, and answers what they ask.
-fn answer_files<F: Files>(
+/// What the other files of a request hold.
+#[derive(Drop)]
+struct RequestBytes {
+    document: Blob,
+    variables: Option<Blob>,
+}
+
+/// Reads the other files of a request.
+fn read_request<F: Files>(
     alloc: Global,
-    asks: Query<'_>,
-    loaded: &Loaded,
+    asks: command_words::Request<'_>,
     files: &mut F,
-) -> Result<Blob, Status>
-    requires { IsUsable (arc_value loaded.now.base) loaded.now.tables }
-    ensures ok { IfOk result (parts.IsAnsweredBy
+) -> Result<RequestBytes, Status>
+    ensures ok { IfOk result (λ read. parts.AreRead
         (outside (F.file files.old) (F.faults files.old) (F.faults files.new))
-        (words.query_of asks.entry) (arc_value loaded.now.base) loaded.now.tables) }
+        (request_told asks.entry) read.document read.variables) }
     ensures err { IfErr result (OrMemory (AreRefused (spec.request_stages
         (outside (F.file files.old) (F.faults files.old) (F.faults files.new))
-        (words.query_of asks.entry)))) }
+        (request_told asks.entry)))) }
     ensures quiet { OnOk result (CountsStay (F.faults files.old) (F.faults files.new)) }
     ensures counts { IfErr result
         (parts.CountsStayBut (F.faults files.old) (F.faults files.new)) }
     ensures kept { (other : List ℕ) → F.file files.new other ≡ F.file files.old other }
 {
     let document = read_bytes(alloc, asks.document, MOST_DOCUMENT_BYTES, files)?;
-    let text = answer_beside(alloc, asks, loaded, document.bytes(), files)?;
-    Ok(text)
-}
-
-/// Reads the variables' file, where one is named, and answers the request that it gives with a document.
-fn answer_beside<F: Files>(
-    alloc: Global,
-    asks: Query<'_>,
-    loaded: &Loaded,
-    document: &[u8],
-    files: &mut F,
-) -> Result<Blob, Status>
-    requires { IsUsable (arc_value loaded.now.base) loaded.now.tables }
-    ensures ok { IfOk result (parts.IsAnsweredBeside
-        (outside (F.file files.old) (F.faults files.old) (F.faults files.new))
-        (words.query_of asks.entry) (arc_value loaded.now.base) loaded.now.tables document.now) }
-    ensures err { IfErr result (OrMemory (AreRefused (spec.variables_stages
-        (outside (F.file files.old) (F.faults files.old) (F.faults files.new))
-        (words.query_of asks.entry).variables))) }
-    ensures quiet { OnOk result (CountsStay (F.faults files.old) (F.faults files.new)) }
-    ensures counts { IfErr result
-        (parts.CountsStayBut (F.faults files.old) (F.faults files.new)) }
-    ensures kept { (other : List ℕ) → F.file files.new other ≡ F.file files.old other }
-{
     let variables = read_given(alloc, asks.variables, files)?;
-    let text = answer_given(alloc, loaded, document, asks.operation, variables.as_ref())?;
-    Ok(text)
+    Ok(RequestBytes {
+        document,
+        variables,
+    })
 }
 
-/// Answers a document beside the bytes of variables, where there are some.
-fn answer_given(
+/// The request that the files of a query and its words make.
+fn request_with<'a>(asks: command_words::Request<'a>, read: &'a RequestBytes) -> Request<'a>
+    ensures { request_of result ≡ asked read.now.document (request_told asks.entry).operation
+        read.now.variables }
+{
+    Request {
+        document: read.document.bytes(),
+        operation: asks.operation,
+        variables: bytes_of(read.variables.as_ref()),
+    }
+}
+
+/// The response to what the files of a query ask.
+fn answer_read(
     alloc: Global,
+    asks: command_words::Request<'_>,
     loaded: &Loaded,
-    document: &[u8],
-    operation: Option<&str>,
-    variables: Option<&Blob>,
+    read: &RequestBytes,
 ) -> Result<Blob, Status>
     requires { IsUsable (arc_value loaded.now.base) loaded.now.tables }
     ensures ok { IfOk result (IsAnswer (arc_value loaded.now.base) loaded.now.tables
-        (asked document.now (option_map (λ n. n.now) operation.entry)
-        (option_map (λ v. v.now) variables.entry))) }
+        (asked read.now.document (request_told asks.entry).operation read.now.variables)) }
     ensures err { IfErr result (λ status. status ≡ status_is.Memory) }
 {
-    let request = Request {
-        document,
-        operation,
-        variables: bytes_of(variables),
-    };
-    match answer_loaded(alloc, loaded, request) {
+    match answer_loaded(alloc, loaded, request_with(asks, read)) {
         Ok(text) => Ok(text),
+        Err(_) => Err(Status::Memory),
+    }
+}
+
+/// What is explained of what the files of a query ask.
+fn explain_read(
+    alloc: Global,
+    asks: command_words::Request<'_>,
+    loaded: &Loaded,
+    read: &RequestBytes,
+) -> Result<Explanation, Status>
+    requires { IsUsable (arc_value loaded.now.base) loaded.now.tables }
+    ensures ok { IfOk result (IsExplained (arc_value loaded.now.base)
+        (asked read.now.document (request_told asks.entry).operation read.now.variables)) }
+    ensures err { IfErr result (λ status. status ≡ status_is.Memory) }
+{
+    match explain_loaded(alloc, loaded, request_with(asks, read)) {
+        Ok(explanation) => Ok(explanation),
         Err(_) => Err(Status::Memory),
     }
 }

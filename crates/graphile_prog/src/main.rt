@@ -7,7 +7,6 @@ mod laws;
 mod run;
 mod status;
 mod telling;
-mod words;
 
 use pg_io::{StdFiles, StdSink, StdSource, System};
 use run::run_once;

@@ -47,13 +47,23 @@ query t.sql q.graphql | . | { allTs { nodes { s s } } } |  |  => Done {"data":{"
 query t.sql q.graphql | . | query Q { a: allTs(first: 1) { totalCount nodes { s @skip(if: true) id } } } |  |  => Done {"data":{"a":{"totalCount":2,"nodes":[{"id":2}]}}}$
 query t.sql q.graphql | . | { allTs(first: -1) { totalCount } } |  |  => Done {"errors":[{"message":"first is negative","locations":[{"line":1,"column":3}],"path":["allTs"]}],"data":{"allTs":null}}$
 query t.sql q.graphql | . | mutation { deleteTById(input: {id: 1}) { t { id } } } |  |  => Done {"errors":[{"message":"mutations are not built"}]}$
+explain t.sql q.graphql | CREATE TABLE users (id serial PRIMARY KEY, name text NOT NULL); CREATE TABLE posts (id serial PRIMARY KEY, author_id integer REFERENCES users, title text NOT NULL); | { allUsers { nodes { name postsByAuthorId(first: 2) { nodes { title } totalCount } } } } |  |  => Done needs 2$fetch users by - nodes 1$fetch posts by author_id nodes 1$layers 3$steps 7$
+explain t.sql q.graphql | . | { |  |  => Done {"errors":[{"message":"document syntax fault","locations":[{"line":1,"column":2}]}]}$
+explain t.sql q.graphql | . | mutation { deleteTById(input: {id: 1}) { t { id } } } |  |  => Done {"errors":[{"message":"mutations are not built"}]}$
+explain t.sql none | . | . |  |  => FileFault file fault$
+explain t.sql | . | . |  |  => BadWords bad words$
+explain t.sql -q.graphql | . | . |  |  => BadWords bad words$
 query t.sql q.graphql --variables none | . | { |  |  => FileFault file fault$
 query t.sql none --variables none | . | { |  |  => FileFault file fault$
 query t.sql q.graphql --variables | . | . |  |  => BadWords bad words$
 query t.sql q.graphql --operation -A | . | . |  |  => BadWords bad words$
-query t.sql q.graphql --variables v.json --operation A | . | . |  |  => BadWords bad words$
+query --variables=none t.sql -- q.graphql | . | . |  |  => FileFault file fault$
+query t.sql q.graphql --variables none --operation A | . | . |  |  => FileFault file fault$
+query t.sql q.graphql --operation=A | . | . |  |  => Done {"errors":[{"message":"no such operation"}]}$
 query t.sql q.graphql --operation A --operation A | . | . |  |  => BadWords bad words$
 check t.sql --operation A | . | . |  |  => BadWords bad words$
+check -- t.sql | . | . |  |  => Done ok$
+check --help | . | . |  |  => BadWords bad words$
 query t.sql q.graphql | . | . | 1 |  => FileFault file fault$
 query t.sql q.graphql | . | . | 2 |  => FileFault file fault$
 query t.sql none | . | . |  |  => FileFault file fault$

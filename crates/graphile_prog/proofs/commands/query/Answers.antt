@@ -1,5 +1,5 @@
 use Rattle.std.specs.Arc.{arc_value}
-use Rattle.graphile_prog.specs.Words.{query_of}
+use Rattle.command_words.specs.Asked.{request_told}
 use Rattle.graphile_prog.proofs.Results.{if_ok, if_err, on_ok, stay_on, stay_but}
 use Rattle.graphile_prog.proofs.TaskStages.{query_passed, query_unanswered}
 use Rattle.graphile_prog.proofs.commands.query.Goals as goal
@@ -7,13 +7,13 @@ use Rattle.graphile_prog.proofs.commands.query.Goals as goal
 pub returns-clause-ok : goal.returns-clause-ok
 returns-clause-ok g c =
     if_ok c.answer_page.result _ _ (λ page a. query_passed (g.F.Files.file c.args.files.now) (g.F.Files.file c.load_file.new.files) (g.F.Files.faults c.args.files.now)
-    (g.F.Files.faults c.load_file.new.files) (g.F.Files.faults c.answer_page.new.files) (query_of c.args.asks) (arc_value c.in_ok-loaded.loaded.base) c.in_ok-loaded.loaded.tables
+    (g.F.Files.faults c.load_file.new.files) (g.F.Files.faults c.answer_page.new.files) (request_told c.args.asks) (arc_value c.in_ok-loaded.loaded.base) c.in_ok-loaded.loaded.tables
     c.in_ok-loaded.ensures.ok c.load_file.ensures.kept c.in_ok-loaded.ensures.quiet a.response _ a.answered a.shown) c.answer_page.ensures.ok
 
 pub returns-clause-err : goal.returns-clause-err
 returns-clause-err g c =
     if_err c.answer_page.result _ _ (query_unanswered (g.F.Files.file c.args.files.now) (g.F.Files.file c.load_file.new.files) (g.F.Files.faults c.args.files.now)
-    (g.F.Files.faults c.load_file.new.files) (g.F.Files.faults c.answer_page.new.files) (query_of c.args.asks) (arc_value c.in_ok-loaded.loaded.base) c.in_ok-loaded.loaded.tables
+    (g.F.Files.faults c.load_file.new.files) (g.F.Files.faults c.answer_page.new.files) (request_told c.args.asks) (arc_value c.in_ok-loaded.loaded.base) c.in_ok-loaded.loaded.tables
     c.in_ok-loaded.ensures.ok c.load_file.ensures.kept c.in_ok-loaded.ensures.quiet) c.answer_page.ensures.err
 
 pub returns-clause-counts : goal.returns-clause-counts
