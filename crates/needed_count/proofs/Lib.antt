@@ -1,1 +1,7 @@
-mod Told
+mod Apart
+mod Distinct
+mod Held
+mod Paths
+mod Same
+mod SameTests
+mod Walked

@@ -1,1 +1,3 @@
-pub mod Signed
+pub mod ArgWords
+pub mod PathWords
+pub mod Walk

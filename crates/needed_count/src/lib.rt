@@ -4,7 +4,9 @@
 mod arguments;
 mod counting;
 mod fields;
-mod same;
-mod signed;
+mod marks;
+mod needs;
+mod walk;
+mod words;
 
 pub use counting::needed;
