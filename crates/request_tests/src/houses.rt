@@ -115,7 +115,23 @@ fn difference_on<L: Ledger>(
     Ok(format!(in alloc; "\n{row}\n  came: {came}")?)
 }
 
-/// The rows of a table, asked on one house, that have another reply than they tell.
+/// The rows of a table, asked on a house, that have another reply than they tell.
+fn told_on<L: Ledger>(
+    alloc: Global,
+    house: &mut OwnHouse,
+    table: &str,
+    rows: &mut MemRows,
+    plans: &mut Steps<L>,
+) -> Result<String, Fail> {
+    let mut told = String::new(alloc);
+    for row in table.trim().lines() {
+        let difference = difference_on(alloc, house, row, rows, plans)?;
+        told.push_str(difference.as_str())?;
+    }
+    Ok(told)
+}
+
+/// The same on a new house.
 fn differences_on<L: Ledger>(
     alloc: Global,
     over: &Loaded,
@@ -130,17 +146,37 @@ fn differences_on<L: Ledger>(
     let mut house = house_over(alloc, over)?;
     let mut rows = MemRows::new(alloc);
     let mut plans = Steps::<L>::new(blank);
-    let mut told = String::new(alloc);
-    for row in table.trim().lines() {
-        let difference = difference_on(alloc, &mut house, row, &mut rows, &mut plans)?;
-        told.push_str(difference.as_str())?;
-    }
-    Ok(told)
+    told_on(alloc, &mut house, table, &mut rows, &mut plans)
 }
 
-fn differences(alloc: Global, table: &str) -> Result<String, Fail> {
-    let over = loaded(alloc, BLOG)?;
-    differences_on::<Brand>(alloc, &over, table, Blank::new(1))
+/// The same of a variable in a directive.
+fn directives_on<L: Ledger>(alloc: Global, over: &Loaded, blank: Blank) -> Result<String, Fail>
+    requires usable { IsUsable (arc_value over.now.base) over.now.tables }
+    requires name { blank.name ≡ L.name }
+    requires parts { blank.parts ≡ L.parts }
+    requires one { L.parts ≡ 1 }
+{
+    differences_on::<L>(alloc, over, DIRECTIVES, blank)
+}
+
+/// The same of a variable in a condition.
+fn conditions_on<L: Ledger>(alloc: Global, over: &Loaded, blank: Blank) -> Result<String, Fail>
+    requires usable { IsUsable (arc_value over.now.base) over.now.tables }
+    requires name { blank.name ≡ L.name }
+    requires parts { blank.parts ≡ L.parts }
+    requires one { L.parts ≡ 1 }
+{
+    differences_on::<L>(alloc, over, CONDITIONS, blank)
+}
+
+/// The same of texts and names.
+fn names_on<L: Ledger>(alloc: Global, over: &Loaded, blank: Blank) -> Result<String, Fail>
+    requires usable { IsUsable (arc_value over.now.base) over.now.tables }
+    requires name { blank.name ≡ L.name }
+    requires parts { blank.parts ≡ L.parts }
+    requires one { L.parts ≡ 1 }
+{
+    differences_on::<L>(alloc, over, NAMES, blank)
 }
 
 /// Whether a plan is made for the query of a number.
@@ -225,7 +261,8 @@ fn asked_twice<L: Ledger>(alloc: Global, over: &Loaded, blank: Blank) -> Result<
 #[test]
 fn a_directive_asks_for_a_plan_of_its_own(rt: HostRuntime) -> Result<(), Fail> {
     let alloc = rt.alloc();
-    let told = differences(alloc, DIRECTIVES)?;
+    let over = loaded(alloc, BLOG)?;
+    let told = directives_on::<Brand>(alloc, &over, Blank::new(1))?;
     assert_eq!(rt; told.as_str(), "");
     Ok(())
 }
@@ -233,7 +270,8 @@ fn a_directive_asks_for_a_plan_of_its_own(rt: HostRuntime) -> Result<(), Fail> {
 #[test]
 fn values_in_a_condition_share_a_plan(rt: HostRuntime) -> Result<(), Fail> {
     let alloc = rt.alloc();
-    let told = differences(alloc, CONDITIONS)?;
+    let over = loaded(alloc, BLOG)?;
+    let told = conditions_on::<Brand>(alloc, &over, Blank::new(1))?;
     assert_eq!(rt; told.as_str(), "");
     Ok(())
 }
@@ -241,7 +279,8 @@ fn values_in_a_condition_share_a_plan(rt: HostRuntime) -> Result<(), Fail> {
 #[test]
 fn texts_and_names_have_plans_of_their_own(rt: HostRuntime) -> Result<(), Fail> {
     let alloc = rt.alloc();
-    let told = differences(alloc, NAMES)?;
+    let over = loaded(alloc, BLOG)?;
+    let told = names_on::<Brand>(alloc, &over, Blank::new(1))?;
     assert_eq!(rt; told.as_str(), "");
     Ok(())
 }

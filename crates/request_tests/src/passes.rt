@@ -144,31 +144,38 @@ fn differs<L: Ledger>(
 }
 
 /// The rows of a table for which both plans don't give one text by so many statements.
-fn differences<L: Ledger>(
+fn told_over<L: Ledger>(
     alloc: Global,
     over: &Loaded,
     table: &str,
-    blank: Blank,
+    plans: &mut Steps<L>,
 ) -> Result<String, Fail>
+    requires { IsUsable (arc_value over.now.base) over.now.tables }
+{
+    let mut told = String::new(alloc);
+    for row in table.trim().lines() {
+        let row = differs(alloc, over, row, plans)?;
+        told.push_str(row.as_str())?;
+    }
+    Ok(told)
+}
+
+/// The same with a new count of plans.
+fn differences<L: Ledger>(alloc: Global, over: &Loaded, blank: Blank) -> Result<String, Fail>
     requires usable { IsUsable (arc_value over.now.base) over.now.tables }
     requires name { blank.name ≡ L.name }
     requires parts { blank.parts ≡ L.parts }
     requires one { L.parts ≡ 1 }
 {
     let mut plans = Steps::<L>::new(blank);
-    let mut told = String::new(alloc);
-    for row in table.trim().lines() {
-        let row = differs(alloc, over, row, &mut plans)?;
-        told.push_str(row.as_str())?;
-    }
-    Ok(told)
+    told_over(alloc, over, BOTH, &mut plans)
 }
 
 #[test]
 fn drafted_and_lean_plans_give_one_text(rt: HostRuntime) -> Result<(), Fail> {
     let alloc = rt.alloc();
     let over = loaded(alloc, BLOG)?;
-    let told = differences::<Brand>(alloc, &over, BOTH, Blank::new(1))?;
+    let told = differences::<Brand>(alloc, &over, Blank::new(1))?;
     assert_eq!(rt; told.as_str(), "");
     Ok(())
 }

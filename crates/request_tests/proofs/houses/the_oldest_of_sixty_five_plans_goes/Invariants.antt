@@ -1,4 +1,4 @@
 use Rattle.request_tests.proofs.houses.the_oldest_of_sixty_five_plans_goes.Given as goal
 
 abbrev pub ghosts-plans_of_many : goal.ghosts-plans_of_many
-ghosts-plans_of_many a = record { name = a.blank.name; parts = a.blank.parts }
+ghosts-plans_of_many a c = record { name = c.blank.name; parts = c.blank.parts }
