@@ -116,6 +116,7 @@ pub fn execute<R: Rows>(
     ensures serves_no_more { (a : R.At) (c : CatalogParts)
         → R.serves rows.new a c → R.serves rows.old a c }
     ensures told { (a : R.At) → R.tables_of rows.new a ≡ R.tables_of rows.old a }
+    ensures rises { R.sent rows.old ≤ R.sent rows.new }
     ensures most { R.sent rows.new ≤ R.sent rows.old
         + sent_count entry.now.tree entry.now.plan root.now }
     ensures sent { (tables : Tables) → R.tables_of rows.old at.now ≡ Some tables

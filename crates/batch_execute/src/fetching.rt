@@ -245,6 +245,7 @@ fn send<R: Rows>(
     ensures serves_no_more { (a : R.At) (c : CatalogParts)
         → R.serves rows.new a c → R.serves rows.old a c }
     ensures told { (a : R.At) → R.tables_of rows.new a ≡ R.tables_of rows.old a }
+    ensures rises { R.sent rows.old ≤ R.sent rows.new }
     ensures most { R.sent rows.new ≤ R.sent rows.old + 1 }
     ensures sent { OnOk result (Counts (R.sent rows.old) (R.sent rows.new) 1) }
     ensures gives { (tables : Tables) → R.tables_of rows.old at.now ≡ Some tables
@@ -289,6 +290,7 @@ fn fetch_one<R: Rows>(
     ensures serves_no_more { (a : R.At) (c : CatalogParts)
         → R.serves rows.new a c → R.serves rows.old a c }
     ensures told { (a : R.At) → R.tables_of rows.new a ≡ R.tables_of rows.old a }
+    ensures rises { R.sent rows.old ≤ R.sent rows.new }
     ensures most { R.sent rows.new ≤ R.sent rows.old
         + sent.one_if (sent.is_sent q.now.entry.now.plan.steps step) }
     ensures sent { (tables : Tables) → OnOk result (Counts (R.sent rows.old) (R.sent rows.new)
@@ -335,6 +337,7 @@ fn fetch_step<R: Rows>(
     ensures serves_no_more { (a : R.At) (c : CatalogParts)
         → R.serves rows.new a c → R.serves rows.old a c }
     ensures told { (a : R.At) → R.tables_of rows.new a ≡ R.tables_of rows.old a }
+    ensures rises { R.sent rows.old ≤ R.sent rows.new }
     ensures most { R.sent rows.new ≤ R.sent rows.old + sent.one_if (sent.is_sent_for
         q.now.entry.now.tree q.now.entry.now.plan q.now.root.now step) }
     ensures sent { (tables : Tables) → OnOk result (Counts (R.sent rows.old) (R.sent rows.new)
@@ -378,6 +381,7 @@ pub(crate) fn fetch_all<R: Rows>(
     ensures serves_no_more { (a : R.At) (c : CatalogParts)
         → R.serves rows.new a c → R.serves rows.old a c }
     ensures told { (a : R.At) → R.tables_of rows.new a ≡ R.tables_of rows.old a }
+    ensures rises { R.sent rows.old ≤ R.sent rows.new }
     ensures most { R.sent rows.new ≤ R.sent rows.old + sent.sent_count
         q.now.entry.now.tree q.now.entry.now.plan q.now.root.now }
     ensures sent { (tables : Tables) → R.tables_of rows.old at.now ≡ Some tables

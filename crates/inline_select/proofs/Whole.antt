@@ -18,7 +18,7 @@ use Rattle.inline_select.specs.Laws.{CanBeInlined, MovedFetchesAreRead, InlinedP
 use Rattle.inline_select.proofs.Bare.{denotation_bare}
 use Rattle.inline_select.proofs.Checks.{inlined_checked}
 use Rattle.inline_select.proofs.Fixed.{bare_is}
-use Rattle.inline_select.proofs.ReadFetches.{read_made}
+use Rattle.inline_select.proofs.ReadFetches.{read_made, fetches_made}
 use Rattle.inline_select.proofs.Rows.{finds_no_more}
 
 -- the law
@@ -54,6 +54,7 @@ module _ (base : BaseParts) (plan : Plan) (tree : Tree) (constraints : List Cons
 pub inlined_sound : InlinedPlansAreSound
 inlined_sound base plan tree constraints ready = record {
   checked = inlined_checked base plan tree ready.checked ready.merged.fetches.flat;
+  follow = λ k s fetch over. (was_sound base plan tree constraints ready).follow k s (sym (ap (λ test. test k) (fetches_made base plan tree ready.checked ready.merged.fetches.flat)) ∙ fetch) over;
   same = λ tables vars r may. shows base plan tree constraints ready tables vars r may ∙ (was_sound base plan tree constraints ready).same tables vars r may;
   few = λ tables vars r may. finds base plan tree constraints ready tables vars r may;
 }

@@ -35,6 +35,7 @@ pub record IsRun (planned : Planned) (held : Option Tables) (vars : Vars) (befor
       → RespondsOver planned.base tables vars planned.tree answer
   pub got : (tables : Tables) → AreTold planned.base.catalog held tables
       → GetsFew planned.base tables vars planned.tree before.got now.got
+  pub rises : before.sent ≤ now.sent
   -- no more statements than the plan sends, and than are needed; over told tables, with a text, one for each asked step
   pub sent : now.sent ≤ before.sent + sent_count planned.tree planned.plan root.Query
   pub needs : now.sent ≤ before.sent + needed_statements planned.base vars planned.tree

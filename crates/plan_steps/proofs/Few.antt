@@ -44,6 +44,7 @@ use Rattle.plan_steps.specs.Values.{Moment, Path, key_at, listing_for, all_vals}
 use Rattle.plan_steps.proofs.Asked.{IsAsked, asked_is}
 use Rattle.plan_steps.proofs.AskedMet.{asked_met}
 use Rattle.plan_steps.proofs.Due.{no_fetch}
+use Rattle.plan_steps.proofs.Follow.{follows}
 use Rattle.plan_steps.proofs.Listings.{top_of, listing_is}
 use Rattle.plan_steps.proofs.Running.{Running, before, rows_picked, one_found}
 use Rattle.plan_steps.proofs.Served.{tree_for, Stands, Below, below_stands, key_due, listing_served, step_listing, place_agrees, serves_sound}
@@ -350,4 +351,4 @@ few_found base plan tree constraints over_tree ok are tables vars r may =
 
 pub fetches_sound : FetchesAreSound
 fetches_sound base plan tree constraints over_tree ok are =
-    serves_sound base plan tree constraints over_tree.made ok are.serves (few_found base plan tree constraints over_tree ok are)
+    serves_sound base plan tree constraints over_tree.made ok are.serves (follows base plan tree constraints ok are) (few_found base plan tree constraints over_tree ok are)

@@ -6,6 +6,7 @@ pub mod Due
 pub mod Earlier
 pub mod Examples
 pub mod Few
+pub mod Follow
 pub mod Keyed
 pub mod Listings
 pub mod Meetings

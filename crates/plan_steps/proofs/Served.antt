@@ -473,8 +473,9 @@ tree_for base tree (root.Field place row) made is =
 
 -- the law: a checked plan whose steps serve all places, and that finds no more rows than are visited, is sound
 pub serves_sound : ServedPlansAreSound
-serves_sound base plan tree constraints made ok all few = record {
+serves_sound base plan tree constraints made ok all follow few = record {
   checked = ok;
+  follow = follow;
   same = λ tables vars r may.
       served base plan tree constraints (names_earlier base tree plan ok) all tables vars r (tree_for base tree r made may.of_tree) may.valid may.fit may.hold;
   few = few;

@@ -33,7 +33,7 @@ use Rattle.plan_steps.specs.Filled.{filled_equal, filled_key, filled_window}
 use Rattle.plan_steps.specs.Fitting.{FitTree}
 use Rattle.plan_steps.specs.Named.{step_for}
 use Rattle.plan_steps.specs.Sent.{rows_found}
-use Rattle.plan_steps.specs.Sound.{MayRun, visited_for, IsSound}
+use Rattle.plan_steps.specs.Sound.{MayRun, visited_for, FetchesFollow, IsSound}
 use Rattle.plan_steps.specs.Values.{order_names, input_or_null}
 
 -- What the places below a place stand on: nothing; the row, the list or an edge of a fetch; the page of a list; what a
@@ -183,8 +183,9 @@ FindsFew base plan tree constraints =
     (tables : Tables) (vars : Vars) (r : Root) → MayRun base tree constraints tables vars r
     → rows_found (moment base tables vars r) tree plan r ≤ visited_for base tables vars tree r
 
--- a plan that is well formed, whose steps serve each place, and that finds few rows, is sound
+-- a plan that is well formed, whose steps serve each place, whose fetches follow one another, and that finds few rows,
+-- is sound
 abbrev pub ServedPlansAreSound : Type 0
 ServedPlansAreSound = (base : BaseParts) (plan : Plan) (tree : Tree) (constraints : List Constraint)
     → IsWellMade base tree → IsTrue (is_checked base tree plan) → ServesAll base tree constraints plan
-    → FindsFew base plan tree constraints → IsSound base plan tree constraints
+    → FetchesFollow plan → FindsFew base plan tree constraints → IsSound base plan tree constraints

@@ -1,6 +1,6 @@
 -- What makes a plan sound: it shows what execution gives, for all tables and variables, and finds no more rows; and
 -- lean: it sends no more statements than are needed.
-use Rattle.std.specs.Prelude.{◌≡◌, ◌≤◌, ℕ, false, List, Some, slice_get, IsSomeAnd, IsTrue}
+use Rattle.std.specs.Prelude.{◌≡◌, ◌<◌, ◌≤◌, ℕ, true, false, List, Some, slice_get, IsSomeAnd, IsTrue}
 use Rattle.pg_base.specs.Base.{BaseParts}
 use Rattle.pg_base.specs.Lists.{Each, EachPair}
 use Rattle.pg_base.specs.declared.vars.Vars.{Vars}
@@ -22,6 +22,7 @@ use Rattle.plan_steps.specs.declared.plan.Root.TheVariants as root
 use Rattle.plan_steps.specs.Check.{is_checked}
 use Rattle.plan_steps.specs.Denoted.{denotation, moment}
 use Rattle.plan_steps.specs.Fitting.{FitTree}
+use Rattle.plan_steps.specs.Named.{is_fetch, over}
 use Rattle.plan_steps.specs.Sent.{rows_found, sent_count}
 use Rattle.plan_steps.specs.Under.{mutated}
 
@@ -65,8 +66,13 @@ pub record MayRun (base : BaseParts) (tree : Tree) (constraints : List Constrain
   pub hold : Hold constraints vars
   pub of_tree : IsRootOf base tree r
 
+-- each fetch comes after the one over which its layer stands
+abbrev pub FetchesFollow : Plan → Type 0
+FetchesFollow plan = (k s : ℕ) → is_fetch plan.steps k ≡ true → over plan.layers k ≡ Some s → s < k
+
 pub record IsSound (base : BaseParts) (plan : Plan) (tree : Tree) (constraints : List Constraint) : Type 0 where
   pub checked : IsTrue (is_checked base tree plan)
+  pub follow : FetchesFollow plan
   pub same : (tables : Tables) (vars : Vars) (r : Root) → MayRun base tree constraints tables vars r
       → denotation base tables vars plan tree r ≡ executed_for base tables vars tree r
   pub few : (tables : Tables) (vars : Vars) (r : Root) → MayRun base tree constraints tables vars r

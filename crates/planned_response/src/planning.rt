@@ -17,7 +17,7 @@ use plan_steps::{Draft, Entry, Steps};
 use std::alloc::{AllocError, Global};
 use std::sync::Arc;
 use std::sync::ledger::Ledger;
-use step_plan::laws::{drafted_are_plain, plannable_trees_stand_over_bases};
+use step_plan::laws::plannable_trees_stand_over_bases;
 use step_plan::make_steps;
 
 /// A merged draft, with its fetches inlined.
@@ -66,7 +66,6 @@ pub fn plan_of<L: Ledger>(
 {
     base.know();
     base.catalog().know();
-    drafted_are_plain();
     plannable_trees_stand_over_bases();
     match make_steps(alloc, base, tree, vars, plans) {
         Ok(draft) => match finished(alloc, draft) {

@@ -49,6 +49,7 @@ pub fn respond<R: Rows, L: Ledger>(
     ensures told { (a : R.At) → R.tables_of rows.new a ≡ R.tables_of rows.old a }
 
     // No more statements than are needed, over any store.
+    ensures rises { R.sent rows.old ≤ R.sent rows.new }
     ensures sent { R.sent rows.new ≤ R.sent rows.old
         + needed_statements (arc_value base.now) vars.now tree }
 

@@ -62,6 +62,7 @@ pub fn respond_with<R: Rows>(
     ensures serves_no_more { (a : R.At) (c : CatalogParts)
         → R.serves rows.new a c → R.serves rows.old a c }
     ensures told { (a : R.At) → R.tables_of rows.new a ≡ R.tables_of rows.old a }
+    ensures rises { R.sent rows.old ≤ R.sent rows.new }
     ensures sent { R.sent rows.new ≤ R.sent rows.old
         + sent_count ready.now.tree ready.now.plan root.Query }
     // Over told tables a text has taken exactly one statement for each asked step.

@@ -48,6 +48,7 @@ module _ (base : BaseParts) (held : Option Tables) (wanted : Asked) (tree : Tree
     run = record {
       response = λ tables told. tt;
       got = by.run.got;
+      rises = by.run.rises;
       sent = by.run.sent;
       needs = by.run.needs;
       asked = λ tables told. tt;
@@ -171,7 +172,7 @@ module _ (base : BaseParts) (tables : Tables) (held : Option Tables) (told : Are
   reply_by true vars tree u = refusal_is too_many u
   reply_by false vars tree served =
       serves_is base tables held told text s.before s.now first last (wanted_with a vars) tree s.history s.entered served.response served.serves
-      (bytes_are (s.now.sent - s.before.sent) served.response served.told)
+      (bytes_are served.statements served.response served.told)
 
   -- the text of a reply is the answer to what was asked
   pub reply_answers : IsReply base held a front s → IsAnswerTo base tables a text
@@ -185,6 +186,13 @@ module _ (base : BaseParts) (tables : Tables) (held : Option Tables) (told : Are
 
 -- ---- on a house of one's own
 
+-- what was sent never falls
+module _ (base : BaseParts) (held : Option Tables) (wanted : Asked) (tree : Tree) (history entered : List KeptParts) (before now : Counts) where
+  sent_rises : (response : KeptResponse) → Serves base held wanted tree history entered before now response → before.sent ≤ now.sent
+  sent_rises response (inl found) = found.run.run.rises
+  sent_rises response (inr (inl made)) = made.run.run.rises
+  sent_rises response (inr (inr stopped)) = omega (arith, stopped.none_sent)
+
 pub served_on : (house after : HouseParts) (held : Option Tables) (mine wanted : Asked) (tree : Tree) (history : List KeptParts) (before now : Counts)
     (response : KeptResponse) (statements : ℕ) (reply : Reply) → mine ≡ wanted → statements ≡ now.sent - before.sent → RepliesAs statements response reply
     → ServesFor house after held mine tree history before now response → ServedOn house after held wanted tree 0 history before now reply
@@ -193,8 +201,10 @@ served_on house after held mine wanted tree history before now response statemen
   shows = on.shows;
   served = record {
     response = response;
+    statements = statements;
     serves = subst (λ (w : Asked). Serves house.base held w tree history on.entered before now response) same on.serves;
-    told = e ∙ ap (λ (n : ℕ). reply_of 0 n response) count;
+    sent = (let rises = sent_rises house.base held mine tree history on.entered before now response on.serves in omega (arith, rises, count));
+    told = e;
   };
 }
 served_on house after held mine wanted tree history before now response statements reply same count (inr e) on = record {
@@ -202,9 +212,11 @@ served_on house after held mine wanted tree history before now response statemen
   shows = on.shows;
   served = record {
     response = untold response;
+    statements = statements;
     serves = untold_serves house.base held wanted tree history on.entered before now response
         (subst (λ (w : Asked). Serves house.base held w tree history on.entered before now response) same on.serves);
-    told = e ∙ ap (λ (n : ℕ). reply_of 0 n (untold response)) count;
+    sent = (let rises = sent_rises house.base held mine tree history on.entered before now response on.serves in omega (arith, rises, count));
+    told = e;
   };
 }
 

@@ -1,7 +1,7 @@
 -- What a request is replied, and what it takes: it is refused, or a plan serves it that is found among those that are
 -- kept, or made and entered. Nothing here speaks of where the plans are kept: of the history, the list of all that was
 -- ever entered, it says what the look saw and what the request entered.
-use Rattle.std.specs.Prelude.{◌≡◌, ◌⊎◌, ℕ, ◌-◌, nat_lt, Bool, true, false, List, [], ◌++◌, length, Option, Result, Ok, Err}
+use Rattle.std.specs.Prelude.{◌≡◌, ◌⊎◌, ℕ, ◌+◌, nat_lt, Bool, true, false, List, [], ◌++◌, length, Option, Result, Ok, Err}
 use Rattle.pg_base.specs.Base.{BaseParts}
 use Rattle.pg_base.specs.Limits.{most_places}
 use Rattle.pg_base.specs.declared.vars.Vars.{Vars}
@@ -71,12 +71,14 @@ pub record IsUnserved (front : ℕ) (s : Service) (answer : Result (List ℕ) Re
 abbrev pub IsRefusedWith : ℕ → Service → List ℕ → Type 0
 IsRefusedWith front s refused = IsUnserved front s (Ok refused)
 
--- a plan serves it: the reply tells its response, and how many more statements were sent than before
+-- a plan serves it: the reply tells its response, and how many statements were sent
 pub record IsServed (base : BaseParts) (held : Option Tables) (wanted : Asked) (tree : Tree) (front : ℕ) (s : Service)
     : Type 0 where
   pub response : KeptResponse
+  pub statements : ℕ
   pub serves : Serves base held wanted tree s.history s.entered s.before s.now response
-  pub told : s.reply ≡ reply_of front (s.now.sent - s.before.sent) response
+  pub sent : s.now.sent ≡ s.before.sent + statements
+  pub told : s.reply ≡ reply_of front statements response
 
 -- the tree has too many places, or a plan serves it
 abbrev pub RepliesBy : Bool → BaseParts → Option Tables → Asked → Tree → ℕ → Service → Type 0

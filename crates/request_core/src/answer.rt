@@ -52,6 +52,7 @@ pub fn answer_request<R: Rows, L: Ledger>(
         (request_of request.entry)) }
 
     // Also where memory runs out:
+    ensures rises { R.sent rows.old ≤ R.sent rows.new }
     ensures sent { R.sent rows.new ≤ R.sent rows.old + most_places }
     ensures got { (tables : Tables)
         → AreTold (arc_value base.now).catalog (R.tables_of rows.old at.now) tables

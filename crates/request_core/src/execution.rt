@@ -40,6 +40,7 @@ pub(crate) fn tree_answer<R: Rows, L: Ledger>(
         vars.now tree
         (spent.counts (R.sent rows.old) (R.got rows.old) (R.faults rows.old) plans.old)
         (spent.counts (R.sent rows.new) (R.got rows.new) (R.faults rows.new) plans.new)) }
+    ensures rises { R.sent rows.old ≤ R.sent rows.new }
     ensures sent { R.sent rows.new ≤ R.sent rows.old + most_places }
     ensures got { (tables : Tables)
         → AreTold (arc_value base.now).catalog (R.tables_of rows.old at.now) tables

@@ -101,6 +101,7 @@ impl Rows for FaultyRows {
         ensures means { (tables : Tables) → Some at.now.set.tables ≡ Some tables →
             Answers room (meaning_of tables stmt.now keys.now) result }
         ensures sent { self.new.sent ≡ min (self.old.sent + 1) (2 ^ 64 - 1) }
+        ensures rises { self.old.sent ≤ self.new.sent }
         ensures got { GotWithin self.old.got self.new.got result }
         ensures faults { self.old.faults ≤ self.new.faults }
         ensures cause { IsStoreFault result → Rose self.old.faults self.new.faults }

@@ -1,6 +1,6 @@
 //! A store of rows in memory.
 
-ghost use Rattle.std.specs.Prelude.{◌≡◌, ◌+◌, ◌-◌, ◌^◌, min, Some};
+ghost use Rattle.std.specs.Prelude.{◌≡◌, ◌+◌, ◌-◌, ◌^◌, ◌≤◌, min, Some};
 ghost use Rattle.stmt_run.specs.Store.{HoldsFor};
 
 use crate::Snapshot;
@@ -41,6 +41,7 @@ impl MemRows {
     /// Counts a statement that was sent and is not run.
     pub(crate) fn count_sent(&mut self)
         ensures sent { self.new.sent ≡ min (self.old.sent + 1) (2 ^ 64 - 1) }
+        ensures rises { self.old.sent ≤ self.new.sent }
         ensures got { self.new.got ≡ self.old.got }
     {
         self.sent = self.sent.saturating_add(1);

@@ -50,6 +50,7 @@ pub trait Rows {
         ensures means { (tables : Tables) → tables_of self.old at.now ≡ Some tables →
             Answers room (meaning_of tables stmt.now keys.now) result }
         ensures sent { sent self.new ≡ min (sent self.old + 1) (2 ^ 64 - 1) }
+        ensures rises { sent self.old ≤ sent self.new }
         ensures got { GotWithin (got self.old) (got self.new) result }
         ensures faults { faults self.old ≤ faults self.new }
         ensures cause { IsStoreFault result → Rose (faults self.old) (faults self.new) };

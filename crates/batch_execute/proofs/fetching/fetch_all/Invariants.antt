@@ -13,6 +13,7 @@ invariant-loop-step g l = record {
   serves : (a : g.row.R-At.Denot) (c : CatalogParts) → g.R.Rows.serves l.fn.rows a c → g.R.Rows.serves l.rows a c;
   serves_no_more : (a : g.row.R-At.Denot) (c : CatalogParts) → g.R.Rows.serves l.rows a c → g.R.Rows.serves l.fn.rows a c;
   told : (a : g.row.R-At.Denot) → g.R.Rows.tables_of l.rows a ≡ g.R.Rows.tables_of l.fn.rows a;
+  grows : g.R.Rows.sent l.fn.rows ≤ g.R.Rows.sent l.rows;
   most : g.R.Rows.sent l.rows + total (λ k. one_if (is_sent_for l.q.entry.now.tree l.q.entry.now.plan l.q.root.now k)) (places_from l.step (drop l.step l.q.entry.now.plan.steps))
       ≤ g.R.Rows.sent l.fn.rows + sent_count l.q.entry.now.tree l.q.entry.now.plan l.q.root.now;
   sent : (tables : Tables) → g.R.Rows.tables_of l.fn.rows l.at ≡ Some tables →

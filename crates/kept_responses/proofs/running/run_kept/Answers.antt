@@ -19,6 +19,7 @@ returns-clause-run g c before after =
     (record {
       response = c.respond_with.ensures.response;
       got = c.respond_with.ensures.got;
+      rises = c.respond_with.ensures.rises;
       sent = c.respond_with.ensures.sent;
       needs = omega (arith, few, c.respond_with.ensures.sent);
       asked = c.respond_with.ensures.asked;
