@@ -82,7 +82,7 @@ loop-step-preserved g c =
       serves_no_more = λ a d h. c.loop-step.invariant.serves_no_more a d (c.in-Ok.ensures.serves_no_more a d h);
       told = λ a. c.in-Ok.ensures.told a ∙ c.loop-step.invariant.told a;
       grows = (let a = c.loop-step.invariant.grows in let b = c.in-Ok.ensures.rises in omega (arith, a, b));
-    most = most_on (λ j. one_if (is_sent_for e.tree e.plan root j)) e.plan.steps k lt (g.R.Rows.sent c.loop-step.rows) (g.R.Rows.sent c.fetch_step.new.rows) (g.R.Rows.sent c.args.rows.now + sent_count e.tree e.plan root)
+      most = most_on (λ j. one_if (is_sent_for e.tree e.plan root j)) e.plan.steps k lt (g.R.Rows.sent c.loop-step.rows) (g.R.Rows.sent c.fetch_step.new.rows) (g.R.Rows.sent c.args.rows.now + sent_count e.tree e.plan root)
           c.loop-step.invariant.most c.in-Ok.ensures.most;
       sent = λ tables told. subst (λ f. g.R.Rows.sent c.args.rows.now + sent_from (m tables) e.tree e.plan root [] (places_from 0 e.plan.steps) < 2 ^ 64 →
           g.R.Rows.sent c.fetch_step.new.rows + sent_from (m tables) e.tree e.plan root f (places_from (k + 1) (drop (k + 1) e.plan.steps))
