@@ -15,10 +15,10 @@ SHAPES = [("one", 100), ("forty", 40), ("equal", 2), ("different", 2)]
 
 
 def seconds_of(program, shape, documents, rounds):
-    """The shortest of five runs."""
+    """The shortest of three runs."""
     words = [program, shape, str(documents), str(rounds)]
     spent = []
-    for _ in range(5):
+    for _ in range(3):
         start = time.perf_counter()
         subprocess.run(words, stdout=subprocess.DEVNULL, check=True)
         spent.append(time.perf_counter() - start)
